@@ -1,0 +1,4 @@
+-- The lemmas of this crate.
+mod Numbers
+mod Runs
+pub mod Rows

@@ -1,0 +1,10 @@
+-- The row that a hash has taken in, one turn of a loop later.
+use mathlib.Core.List.{List, [], _∷_, _++_, map}
+use Prim.Native.Nat.{ℕ, _+_, _<_}
+use lib.ListN.{length, take, getD}
+use Rattle.std.proofs.shelf.Lists.{map-more}
+
+-- for any relation between states and rows: the elements of xs are taken in one by one, each by what f makes of it
+pub held-more : {X : Type 0} {S : Type 0} (holds : S → List ℕ → Type 0) (f : X → ℕ) (tag : ℕ) (xs : List X) (i : ℕ) (d : X) (s t : S) → i < length xs →
+    holds s (tag ∷ map f (take i xs)) → ((ys : List ℕ) → holds s ys → holds t (ys ++ (f (getD xs i d) ∷ []))) → holds t (tag ∷ map f (take (i + 1) xs))
+held-more holds f tag xs i d s t h now next = rw (map-more f xs i d h) (next (tag ∷ map f (take i xs)) now)
