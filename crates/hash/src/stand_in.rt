@@ -1,6 +1,6 @@
 // A stand-in for the hash, until SHA-256 is there: rows that hash to the same are easily found, so it protects nothing.
 ghost use mathlib.Core.Path.{_≡_};
-ghost use Prim.Native.Nat.{_%_, _<_};
+ghost use Prim.Native.Nat.{_%_};
 ghost use Rattle.hash.specs.StandIn.{run, stand-in};
 ghost use Rattle.hash.specs.Value.{worth};
 use crate::number::Number;
@@ -11,8 +11,7 @@ const MODULUS: u64 = 4_294_967_291;
 
 #[derive(Drop)]
 pub struct StandIn {
-    state: u64,
-    ghost small: { state < 4294967291 },
+    state: u32,
 }
 
 // What is left of the number that the bytes mean, divided by the modulus.
@@ -32,51 +31,20 @@ pub impl RowHasher for StandIn as StandInRowHasher {
     ghost holds = { λ s xs. s .state ≡ run 0 xs };
 
     fn start(purpose: Purpose) -> StandIn {
-        StandIn {
-            state: purpose.tag(),
-        }
+        let mut hasher = StandIn { state: 0 };
+        hasher.absorb(&Number::from_u64(purpose.tag()));
+        hasher
     }
 
     fn absorb(&mut self, x: &Number) {
         let bytes = x.to_bytes();
-        self.state = (self.state * 65_599 + residue(&bytes)) % MODULUS;
+        let next = (u64::from(self.state) * 65_599 + residue(&bytes)) % MODULUS;
+        self.state = next as u32;
     }
 
     fn finish(self) -> Number {
-        let b = self.state.to_be_bytes();
-        Number::from_bytes([
-            b[4],
-            b[5],
-            b[6],
-            b[7],
-            0,
-            0,
-            0,
-            0,
-            0,
-            0,
-            0,
-            0,
-            0,
-            0,
-            0,
-            0,
-            0,
-            0,
-            0,
-            0,
-            0,
-            0,
-            0,
-            0,
-            0,
-            0,
-            0,
-            0,
-            0,
-            0,
-            0,
-            0,
-        ])
+        let mut bytes = [0; 32];
+        bytes[0..4].copy_from_slice(&self.state.to_be_bytes());
+        Number::from_bytes(bytes)
     }
 }

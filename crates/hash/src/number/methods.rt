@@ -21,41 +21,9 @@ impl Number {
     pub fn from_u64(x: u64) -> Number
         ensures { λ r. ⌜ valueOf r ≡ x ⌝ }
     {
-        let b = x.to_be_bytes();
-        Number::from_bytes([
-            0,
-            0,
-            0,
-            0,
-            0,
-            0,
-            0,
-            0,
-            0,
-            0,
-            0,
-            0,
-            0,
-            0,
-            0,
-            0,
-            0,
-            0,
-            0,
-            0,
-            0,
-            0,
-            0,
-            0,
-            b[0],
-            b[1],
-            b[2],
-            b[3],
-            b[4],
-            b[5],
-            b[6],
-            b[7],
-        ])
+        let mut bytes = [0; 32];
+        bytes[24..32].copy_from_slice(&x.to_be_bytes());
+        Number::from_bytes(bytes)
     }
 
     // The bit at a place from 0, the highest bit of the first byte; past the last one none is set.
