@@ -1,0 +1,3 @@
+-- The lemmas of this crate.
+pub mod Powers
+pub mod Walks
