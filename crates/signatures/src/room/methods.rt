@@ -1,0 +1,36 @@
+// A room with no signature in it, and a view of the one that it holds.
+ghost use mathlib.Core.Path.{_≡_};
+ghost use mathlib.Core.List.{[]};
+ghost use Rattle.signatures.specs.Views.{viewed, held};
+use super::SignatureRoom;
+use crate::view::SignatureView;
+use hash::Number;
+use keys::Signer;
+
+impl SignatureRoom {
+    // Room with no number in use.
+    pub fn new() -> SignatureRoom
+        ensures { λ r. ⌜ held r ≡ record { key = 0; parts = []; others = []; path = [] } ⌝ }
+    {
+        let zero = Number::from_u64(0);
+        SignatureRoom {
+            key: 0,
+            bits: 0,
+            levels: 0,
+            parts: [zero; Signer::MAX_BITS],
+            others: [zero; Signer::MAX_BITS],
+            path: [zero; Signer::MAX_LEVELS],
+        }
+    }
+
+    pub fn view<'a>(&'a self) -> SignatureView<'a>
+        ensures { λ r. ⌜ viewed r ≡ held (now (self .entry)) ⌝ }
+    {
+        SignatureView {
+            key: self.key,
+            parts: &self.parts[0..self.bits],
+            others: &self.others[0..self.bits],
+            path: &self.path[0..self.levels],
+        }
+    }
+}
