@@ -1,3 +1,4 @@
--- The definitions that the contracts of this crate cite.
+-- The definitions that the contracts of this crate and of the signer's cite.
+pub mod Rows
 pub mod Signatures
 pub mod Views
