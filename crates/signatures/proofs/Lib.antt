@@ -1,5 +1,7 @@
 -- The lemmas of this crate.
 pub mod Accepts
 pub mod Each
+pub mod Forgeries
 pub mod Leaves
+pub mod Own
 pub mod Signs

@@ -33,3 +33,40 @@ up-more h f x v w ps i d l e = rw (e, drop-more ps i d l)
 pub up-all : {X : Type 0} (h : Mix) (f : X → ℕ) (x v : ℕ) (ps : List X) (i : ℕ) → length ps ≤ i → up h (map f (drop i ps)) x v ≡ v
 unfolding up
 up-all h f x v ps i l = rw (drop-all i ps l)
+
+-- the row of a node is made of the two below it, whichever of them is at hand
+pub fork-own : (h : Mix) (n s d x : ℕ) → fork x (node h n s d x) (node h n s d (beside x)) ≡ node-row (node h n s d (2 * (x / 2))) (node h n s d (2 * (x / 2) + 1))
+unfolding beside fork
+fork-own h n s d x =
+    elim (cases-eq (x % 2) 0) [
+      | inl e ↦ let f : 2 * (x / 2) ≡ x = omega arith in rw (eq-eqb (x % 2) 0 e, f)
+      | inr e ↦ let f : 2 * (x / 2) + 1 ≡ x = omega arith in let g : 2 * (x / 2) ≡ x - 1 = omega arith in rw (ne-eqb (x % 2) 0 e, f, g)
+    ]
+
+-- two rows made so are equal only if what they are made of is
+pub fork-same : (x v p w q : ℕ) → fork x v p ≡ fork x w q → (v ≡ w) × (p ≡ q)
+fork-same x v p w q e =
+    elim (cases-eq (x % 2) 0) [
+      | inl z ↦ let a = fork-even x v p z in let b = fork-even x w q z in (cc, cc)
+      | inr z ↦ let a = fork-odd x v p z in let b = fork-odd x w q z in (cc, cc)
+    ]
+
+-- and none is a row of another sort
+pub fork-tag : (x v p t : ℕ) (r : List ℕ) → fork x v p ≡ t ∷ r → 3 ≡ t
+fork-tag x v p t r e = elim (cases-eq (x % 2) 0) [ inl z ↦ let a = fork-even x v p z in cc | inr z ↦ let a = fork-odd x v p z in cc ]
+
+-- the tree's own path leads from a node up to the one above it at the top
+pub climbs : (h : Mix) (n s d u x top : ℕ) → u + d ≡ top → x < power u → up h (path-from h n s d u x) x (node h n s d x) ≡ node h n s top 0
+unfolding up path-from node
+climbs h n s d zero x top e k = ap (λ (y : ℕ). node h n s y x) (omega arith) ∙ ap (λ (y : ℕ). node h n s top y) (omega arith)
+climbs h n s d (suc u) x top e k =
+    ap (λ (v : ℕ). up h (path-from h n s (suc d) u (x / 2)) (x / 2) v) (ap h (fork-own h n s d x)) ∙ climbs h n s (suc d) u (x / 2) top (omega arith) (omega arith)
+
+pub length-path : (h : Mix) (n s d u x : ℕ) → length (path-from h n s d u x) ≡ u
+unfolding path-from
+length-path h n s d zero x = refl
+length-path h n s d (suc u) x = ap suc (length-path h n s (suc d) u (x / 2))
+
+pub beside-below : (x p : ℕ) → x < 2 * p → beside x < 2 * p
+unfolding beside
+beside-below x p k = elim (cases-eq (x % 2) 0) [ inl e ↦ rw (eq-eqb (x % 2) 0 e) (omega arith) | inr e ↦ rw (ne-eqb (x % 2) 0 e) (omega arith) ]
