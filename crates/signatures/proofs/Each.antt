@@ -2,12 +2,14 @@
 use mathlib.Core.Path.{_≡_, refl, sym, ap, _∙_}
 use mathlib.Core.Bool.{Bool, false}
 use mathlib.Core.List.{List, [], _∷_, _++_, map}
+use mathlib.Core.Logic.{inl, inr}
 use Prim.Native.Nat.{ℕ, zero, suc, _+_, _<_}
 use native.Mathlib.Nat.{zero-add}
 use native.Mathlib.Numerals.{add-one}
 use native.Mathlib.Omega.{arith}
 use lib.ListN.{length, getD, take, set}
 use Rattle.std.proofs.shelf.Lists.{map-append, take-more-set}
+use Rattle.hash.specs.Members.{In}
 use Rattle.signatures.specs.Signatures.{each-from}
 
 pub length-each : (f : ℕ → Bool → ℕ) (j : ℕ) (bs : List Bool) → length (each-from f j bs) ≡ length bs
@@ -20,6 +22,13 @@ unfolding each-from
 each-at f o [] j k = absurd (omega arith)
 each-at f o (b ∷ bs) zero k = ap (λ (y : ℕ). f y b) (omega arith)
 each-at f o (b ∷ bs) (suc j) k = each-at f (suc o) bs j (omega arith) ∙ ap (λ (y : ℕ). f y (getD bs j false)) (omega arith)
+
+pub in-each : (f : ℕ → Bool → ℕ) (o : ℕ) (bs : List Bool) (v : ℕ) → In v (each-from f o bs) → (j : ℕ) × (j < length bs) × (v ≡ f (o + j) (getD bs j false))
+unfolding each-from
+in-each f o [] v i = absurd i
+in-each f o (b ∷ bs) v (inl e) = (0, omega arith, e ∙ ap (λ (y : ℕ). f y b) (omega arith))
+in-each f o (b ∷ bs) v (inr i) =
+    let r = in-each f (suc o) bs v i in (suc (r .0), omega arith, r .2 ∙ ap (λ (y : ℕ). f y (getD bs (r .0) false)) (omega arith))
 
 each-push : (f : ℕ → Bool → ℕ) (o : ℕ) (bs : List Bool) (k j : ℕ) → k < length bs → o + k ≡ j →
     each-from f o (take (suc k) bs) ≡ each-from f o (take k bs) ++ (f j (getD bs k false) ∷ [])

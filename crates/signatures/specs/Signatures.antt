@@ -15,6 +15,10 @@ pub record Signature : Type 0 where
   pub others : List ℕ
   pub path : List ℕ
 
+-- every number of a signature
+abbrev pub numbers : Signature → List ℕ
+numbers g = g .parts ++ (g .others ++ g .path)
+
 -- a number for each bit, by the bit and its place, from place j on
 unfoldable pub each-from : (ℕ → Bool → ℕ) → ℕ → List Bool → List ℕ
 each-from f j [] = []

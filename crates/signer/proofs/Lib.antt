@@ -1,1 +1,5 @@
 -- The lemmas of this crate.
+mod Counting
+mod Know
+mod OneTree
+mod Runs

@@ -9,9 +9,9 @@ use Rattle.hash.specs.Members.{In, Rising}
 use Rattle.hash.specs.Mix.{Mix}
 use Rattle.keys.specs.Keys.{secret}
 use Rattle.tree.specs.Tree.{power, node}
-use Rattle.signatures.specs.Signatures.{Signature, signed, accepted}
+use Rattle.signatures.specs.Signatures.{Signature, numbers, signed, accepted}
 use Rattle.signatures.specs.Rows.{Own-row, looked-rows, Collision-of, Located-collision}
-use Rattle.signer.specs.Runs.{Request, Gift, given, signature-given, numbers}
+use Rattle.signer.specs.Runs.{Request, Gift, given, signature-given}
 
 -- what the signer signs is accepted
 abbrev pub Own-accepted : Type 0

@@ -31,15 +31,15 @@ pub record Gift : Type 0 where
   pub key : ℕ
   pub request : Request
 
--- all keys that are given in a run from the store m, in order
+-- what an answer gives for a request
+abbrev pub gifts : Request → Done → List Gift
+gifts q d = map (λ i. record { key = i; request = q }) (keys-in d)
+
+-- all that is given in a run from the store m, in order
 abbrev pub given : List ℕ → List Request → List Gift
 given m [] = []
-given m (q ∷ qs) = map (λ i. record { key = i; request = q }) (keys-in (answered m q)) ++ given (after m q) qs
+given m (q ∷ qs) = gifts q (answered m q) ++ given (after m q) qs
 
 -- the signature that a signer with the seed s gave with that key
 abbrev pub signature-given : Mix → (seed : ℕ) → Gift → Signature
 signature-given h s a = signed h s (a .request .levels) (a .key) (a .request .bits)
-
--- every number of a signature
-abbrev pub numbers : Signature → List ℕ
-numbers g = g .parts ++ (g .others ++ g .path)
