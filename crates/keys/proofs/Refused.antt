@@ -14,7 +14,7 @@ use Rattle.keys.specs.Refusals.{first, levels-refusal, bits-refusal, Unless}
 use Rattle.keys.specs.declared.refusal.Refusal.{Refusal}
 
 -- a test under which nothing is refused has passed
-passed : (t : Bool) (r : Refusal) → None ≡ cond t None (Some r) → t ≡ true
+pub passed : (t : Bool) (r : Refusal) → None ≡ cond t None (Some r) → t ≡ true
 passed true r e = refl
 passed false r e = let z : _≡_ {A = ℕ} 0 1 = cc in absurd (omega arith)
 
@@ -24,6 +24,11 @@ levels-taken l e = leb-true l built-levels (passed (leb l built-levels) _ e)
 pub bits-taken : (n : ℕ) → None ≡ bits-refusal n → (1 ≤ n) × (n ≤ max-bits)
 bits-taken n e =
     let p = and-parts (leb 1 n) (leb n max-bits) (passed (leb 1 n && leb n max-bits) _ e) in (leb-true 1 n (p .0), leb-true n max-bits (p .1))
+
+-- where the first of two that applies is none, neither does
+pub neither : (a b : Option Refusal) → None ≡ first a b → (None ≡ a) × (None ≡ b)
+neither (Some r) b e = let z : _≡_ {A = ℕ} 0 1 = cc in absurd (omega arith)
+neither None b e = (refl, e)
 
 -- what is made where neither of two refusals applies
 pub made : {T : Type 0} (a b : Option Refusal) (x : T) (P : T → Type 0) → None ≡ a → None ≡ b → P x → Unless (first a b) (Ok x) P

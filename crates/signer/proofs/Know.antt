@@ -111,9 +111,9 @@ pub must-know-located : Must-know-located
 must-know-located h s l n k m qs bs g o all acc not-given =
     knows h s l n k (given m qs) bs g o
     (record {
-      one = one-row m qs
-      ; tree = λ a i. let t = all a i in (t .0, t .1, subst (λ (y : ℕ). a .key < power y) (t .0) (given-below m qs a i))
-      ; not = not-given
+      one = one-row m qs;
+      tree = λ a i. let t = all a i in (t .0, t .1, subst (λ (y : ℕ). a .key < power y) (t .0) (given-below m qs a i));
+      not = not-given;
     })
     acc
 
@@ -134,9 +134,9 @@ pub must-know : Must-know
 must-know h s l n m xs bs g sd _ _ o e sized acc not-given =
     let gave : Gave l n (g .key) bs (gathered l m xs) =
     record {
-      one = λ a b i j f. ap (λ (x : Gift). x .request .bits) (one-each (λ (x : Gift). x .key) (gathered l m xs) a b (gathered-rise l m xs sd) i j f)
-      ; tree = λ a i. let w = was-given l m xs a i in (w .1, sized (a .key) (a .request .bits) (w .0), w .2)
-      ; not = λ a i k f. not-given (subst₂ (λ (x : ℕ) (y : List Bool). key-given l m xs x y) k f (was-given l m xs a i .0))
+      one = λ a b i j f. ap (λ (x : Gift). x .request .bits) (one-each (λ (x : Gift). x .key) (gathered l m xs) a b (gathered-rise l m xs sd) i j f);
+      tree = λ a i. let w = was-given l m xs a i in (w .1, sized (a .key) (a .request .bits) (w .0), w .2);
+      not = λ a i k f. not-given (subst₂ (λ (x : ℕ) (y : List Bool). key-given l m xs x y) k f (was-given l m xs a i .0));
     } in
     elim (knows h s l n l (gathered l m xs) bs g o gave acc) [
       | inl r ↦ inl (r .0, r .1, r .2, λ y. let w = in-given h s l m xs _ y in r .3 (w .0) (w .1) (w .2))

@@ -37,8 +37,8 @@ if-one false k a q h = inl refl
 asked-steps : (l : ℕ) → Steps (gifts-of l) (after-of l)
 asked-steps l =
     record {
-      stays = λ m x s. let k = step-kept l m (request-of l x .lasts) s in (k .0, k .1)
-      ; one = λ m x s. if-one (gives l m (request-of l x .lasts)) (next m) _ (request-of l x) (step-kept l m (request-of l x .lasts) s .2)
+      stays = λ m x s. let k = step-kept l m (request-of l x .lasts) s in (k .0, k .1);
+      one = λ m x s. if-one (gives l m (request-of l x .lasts)) (next m) _ (request-of l x) (step-kept l m (request-of l x .lasts) s .2);
     }
 
 pub gathered-rise : (l : ℕ) (m : List ℕ) (xs : List Asked) → sound m ≡ true → Rising (map (λ (a : Gift). a .key) (gathered l m xs))

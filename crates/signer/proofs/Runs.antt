@@ -77,11 +77,12 @@ module _ {Q : Type 0} (g : List ℕ → Q → List Gift) (t : List ℕ → Q →
       elim (u .one m q s) [
         | inl e ↦ rw e (rising (t m q) qs (k .0))
         | inr o ↦
-            rw (o .1)
-            (λ y i.
-              let b = from-map (λ (a : Gift). a .key) y (run g t (t m q) qs) i in
-              let r = least (t m q) qs (b .0) (k .0) (b .1) in omega (arith, o .2, o .3, b .2),
-            rising (t m q) qs (k .0))
+            rw (o .1) (
+              λ y i.
+                  let b = from-map (λ (a : Gift). a .key) y (run g t (t m q) qs) i in
+                  let r = least (t m q) qs (b .0) (k .0) (b .1) in omega (arith, o .2, o .3, b .2),
+              rising (t m q) qs (k .0),
+            )
       ]
 
 -- what the entry that signs gives for one request
@@ -119,8 +120,8 @@ request-steps : Steps request-gifts after
 unfolding request-gifts
 request-steps =
     record {
-      stays = λ m q s. request-stays (q .levels) (q .lasts) m (refusal (q .levels) m (length (q .bits))) s
-      ; one = λ m q s. request-one (q .levels) (q .lasts) m q (refusal (q .levels) m (length (q .bits))) s
+      stays = λ m q s. request-stays (q .levels) (q .lasts) m (refusal (q .levels) m (length (q .bits))) s;
+      one = λ m q s. request-one (q .levels) (q .lasts) m q (refusal (q .levels) m (length (q .bits))) s;
     }
 
 -- from a store that is not sound nothing is given
@@ -171,6 +172,6 @@ unfolding request-gifts
 given-below m qs a i =
     run-all request-gifts after (λ (x : Gift). x .key < power (x .request .levels))
     (λ k q x j.
-      let b = refused-below (q .levels) (q .lasts) k q (refusal (q .levels) k (length (q .bits))) x j in
-      subst (λ (y : Request). x .key < power (y .levels)) (sym (b .1)) (b .0))
+    let b = refused-below (q .levels) (q .lasts) k q (refusal (q .levels) k (length (q .bits))) x j in
+    subst (λ (y : Request). x .key < power (y .levels)) (sym (b .1)) (b .0))
     m qs a (rw (given-is m qs) at i)

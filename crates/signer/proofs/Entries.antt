@@ -1,0 +1,37 @@
+-- What the entry that signs may rely on, and what it answers, where nothing is refused and a key is left.
+use mathlib.Core.Path.{_≡_, refl, sym, ap, _∙_}
+use mathlib.Core.Bool.{Bool, true, false, _&&_, cond}
+use mathlib.Core.List.{List}
+use Prim.Native.Nat.{ℕ, _≤_}
+use lib.Dec.{ltb, leb}
+use Rattle.std.specs.declared.option.Option.{Option}
+use Rattle.std.specs.declared.option.Option.the-variants.{None}
+use Rattle.std.proofs.shelf.Tests.{cond-true, leb-true}
+use Rattle.keys.specs.Refusals.{levels-refusal, bits-refusal}
+use Rattle.keys.specs.declared.refusal.Refusal.{Refusal}
+use Rattle.keys.proofs.Refused.{passed, neither}
+use Rattle.tree.specs.Tree.{power}
+use Rattle.signer.specs.Answers.{refusal, unrefused, unless-refused, answer, stored, key-refusal, store-refusal}
+use Rattle.signer.specs.Store.{next, sound, reserved, step, gives}
+use Rattle.signer.specs.declared.answer.Done.{Done}
+use Rattle.signer.specs.declared.answer.Done.the-variants.{Key, Cut, Empty}
+
+-- all that a request has passed which is not refused
+pub taken : (l : ℕ) (m : List ℕ) (n : ℕ) → None ≡ refusal l m n → (None ≡ levels-refusal l) × (sound m ≡ true) × (next m ≤ power l) × (None ≡ bits-refusal n)
+taken l m n e =
+    let a = neither (levels-refusal l) _ e in
+    let b = neither (store-refusal m) _ (a .1) in
+    let c = neither (key-refusal (next m) l) (bits-refusal n) (b .1) in
+    (a .0, passed (sound m) _ (b .0), leb-true _ _ (passed (leb (next m) (power l)) _ (c .0)), c .1)
+
+-- with power for both writes, by whether a key is left
+two-writes : (t : Bool) (k : ℕ) → t ≡ true → cond (t && leb 2 2) (Key k) (cond t Cut Empty) ≡ Key k
+two-writes true k e = refl
+two-writes false k e = let z : _≡_ {A = Bool} false true = e in cc
+
+pub answers-key : (l : ℕ) (m : List ℕ) (n : ℕ) → None ≡ refusal l m n → ltb (next m) (power l) ≡ true → Key (next m) ≡ answer l m n 2
+answers-key l m n e t = sym (two-writes (ltb (next m) (power l)) (next m) t) ∙ ap (λ (o : Option Refusal). unrefused l m 2 o) e
+
+pub stores-count : (l : ℕ) (m : List ℕ) (n : ℕ) → None ≡ refusal l m n → ltb (next m) (power l) ≡ true → reserved 2 m ≡ stored l m n 2
+stores-count l m n e t =
+    sym (cond-true (ltb (next m) (power l)) (reserved 2 m) m t) ∙ ap (λ (o : Option Refusal). unless-refused o m (step l m 2)) e
