@@ -14,7 +14,7 @@ ghost use Rattle.signatures.specs.Views.{viewed, held};
 ghost use Rattle.std.specs.declared.option.Option.the-variants.{None};
 ghost use Rattle.signer.specs.Answers.{key-refusal, refusal, answer, stored, Room-says, Given-accepted};
 ghost use Rattle.signer.specs.Promises.{Own};
-ghost use Rattle.signer.specs.Store.{next, sound};
+ghost use Rattle.signer.specs.Store.{next, sound, reserved};
 ghost use Rattle.signer.specs.declared.answer.Done.the-variants.{Key};
 use crate::answer::Done;
 use crate::store::is_sound;
@@ -88,6 +88,26 @@ fn sign_counted<H: RowHasher>(
     }
 }
 
+// Reserves the next key, and signs with it.
+fn sign_next<H: RowHasher>(
+    signer: &Signer,
+    bits: &[bool],
+    store: &mut [u32],
+    room: &mut SignatureRoom,
+) -> Done
+    requires four { ⌜ length (now store) ≡ 4 ⌝ }
+    requires sound { ⌜ sound (now store) ≡ true ⌝ }
+    requires small { ⌜ next (now store) < 4294967295 ⌝ }
+    requires levels { ⌜ None ≡ levels-refusal (now signer .levels) ⌝ }
+    requires bits { ⌜ None ≡ bits-refusal (length (now bits)) ⌝ }
+    ensures answer { λ r. ⌜ r ≡ Key (next (now (store .entry))) ⌝ }
+    ensures store { λ _. ⌜ now (store .exit) ≡ reserved 2 (now (store .entry)) ⌝ }
+    ensures room { λ _. ⌜ held (now (room .exit)) ≡ signed mix (valueOf (now (signer .entry) .seed)) (now (signer .entry) .levels) (next (now (store .entry))) (now (bits .entry)) ⌝ }
+{
+    reserve(store);
+    sign_counted::<H>(signer, bits, store, room)
+}
+
 // Signs a row of bits with the next key, in the room. The store is lent: the key is reserved here, and its count is written before anything of the signature exists.
 pub fn sign<H: RowHasher>(
     signer: &Signer,
@@ -106,8 +126,7 @@ pub fn sign<H: RowHasher>(
     if !in_tree(u64::from(next_key(store)), signer.levels) {
         return Done::Empty;
     }
-    reserve(store);
-    sign_counted::<H>(signer, bits, store, room)
+    sign_next::<H>(signer, bits, store, room)
 }
 
 // Whether a signature is accepted, for a row of bits and a root of so many levels. If it is, then of every signer whose root this is it is that signer's own, or two rows are shown that hash to the same.

@@ -1,7 +1,7 @@
 // The store: two slots of a count and its check, one of which is written while the other counts.
 ghost use mathlib.Core.Path.{_≡_};
 ghost use mathlib.Core.Bool.{true};
-ghost use Prim.Native.Nat.{_+_, _<_};
+ghost use Prim.Native.Nat.{_-_, _≤_, _<_};
 ghost use lib.ListN.{length};
 ghost use Rattle.signer.specs.Store.{check, slot-ok, written, next, sound, reserved};
 
@@ -57,8 +57,8 @@ pub(crate) fn next_key(store: &[u32]) -> u32
     store[2 * (1 - slot_to_write(store))]
 }
 
-// Reserves the next key: one more in the slot that is written next, first as the count, then the check.
-pub(crate) fn reserve(store: &mut [u32])
+// One more than the next key in the slot that is written next: first the count, then its check.
+fn write_count(store: &mut [u32])
     requires four { ⌜ length (now store) ≡ 4 ⌝ }
     requires sound { ⌜ sound (now store) ≡ true ⌝ }
     requires small { ⌜ next (now store) < 4294967295 ⌝ }
@@ -68,4 +68,17 @@ pub(crate) fn reserve(store: &mut [u32])
     let at = 2 * slot_to_write(store);
     store[at] = count;
     store[at + 1] = check_of(count);
+}
+
+// Reserves the next key. Afterwards the store is sound, and the key is the one below its count.
+pub(crate) fn reserve(store: &mut [u32])
+    requires four { ⌜ length (now store) ≡ 4 ⌝ }
+    requires sound { ⌜ sound (now store) ≡ true ⌝ }
+    requires small { ⌜ next (now store) < 4294967295 ⌝ }
+    ensures after { λ _. ⌜ now (store .exit) ≡ reserved 2 (now (store .entry)) ⌝ }
+    ensures sound { λ _. ⌜ sound (now (store .exit)) ≡ true ⌝ }
+    ensures counted { λ _. ⌜ 1 ≤ next (now (store .exit)) ⌝ }
+    ensures key { λ _. ⌜ next (now (store .exit)) - 1 ≡ next (now (store .entry)) ⌝ }
+{
+    write_count(store);
 }

@@ -15,6 +15,9 @@ pub power-is : (n : ℕ) → power n ≡ 2 ^ n
 power-is zero = refl
 power-is (suc n) = omega (arith, power-is n)
 
+pub power-mono : (m n : ℕ) → m ≤ n → power m ≤ power n
+power-mono m n h = let p : 2 ^ m ≤ 2 ^ n = pow-mono h in omega (arith, power-is m, power-is n)
+
 -- what a shift of 1 gives in 64 bits
 pub shifted : (n : ℕ) → n < 64 → 1 * 2 ^ n % 2 ^ 64 ≡ power n
 shifted n h =
