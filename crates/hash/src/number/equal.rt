@@ -4,7 +4,7 @@ ghost use lib.Dec.{eqb};
 ghost use lib.ListN.{length};
 ghost use Rattle.std.specs.Orderings.{Decides};
 ghost use Rattle.hash.specs.Value.{worth, valueOf};
-ghost use Rattle.hash.specs.Laws.{Bounded, Told-apart};
+ghost use Rattle.hash.specs.Laws.{Bounded, Bytes-back};
 use super::Number;
 
 // Whether two rows of bytes of one length mean the same. It reads both to the end, whatever they hold, so that its time tells nothing.
@@ -29,8 +29,8 @@ pub impl PartialEq<Number> for Number as NumberPartialEq {
     }
 }
 
-// Every number is below 2^256, and two that mean the same have the same bytes.
+// Every number is below 2^256, and its bytes are those of its meaning.
 pub fn numbers_are_their_bytes()
     ensures bounded { λ _. ⌜ Bounded ⌝ }
-    ensures told_apart { λ _. ⌜ Told-apart ⌝ }
+    ensures bytes_back { λ _. ⌜ Bytes-back ⌝ }
 {}
