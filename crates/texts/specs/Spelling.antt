@@ -1,0 +1,35 @@
+-- How numbers are written, by the codes of ASCII. Assumes nothing: these are definitions.
+use mathlib.Core.Bool.{Bool, true, _&&_, cond}
+use mathlib.Core.List.{List, [], _∷_, map}
+use Prim.Native.Nat.{ℕ, _+_, _-_, _/_, _%_}
+use lib.Dec.{ltb, leb}
+use lib.ListN.{length}
+use Rattle.std.specs.Joined.{joined}
+use Rattle.std.specs.declared.option.Option.{Option}
+use Rattle.std.specs.declared.option.Option.the-variants.{Some, None}
+use Rattle.std.specs.shelf.Digits.{number}
+
+-- a digit in sixteens: 0-9, a-f
+abbrev pub hex-digit : ℕ → ℕ
+hex-digit d = cond (ltb d 10) (48 + d) (87 + d)
+
+-- a byte: two digits, the higher first
+abbrev pub hex-byte : ℕ → List ℕ
+hex-byte b = hex-digit (b / 16) ∷ hex-digit (b % 16) ∷ []
+
+-- bytes in sixteens, one after the other
+abbrev pub hex : List ℕ → List ℕ
+hex bs = joined hex-byte bs
+
+-- a text of 0-9 alone
+abbrev pub all-digits : List ℕ → Bool
+all-digits [] = true
+all-digits (c ∷ cs) = (leb 48 c && leb c 57) && all-digits cs
+
+-- the number that digits write
+abbrev pub digits-value : List ℕ → ℕ
+digits-value cs = number 10 (map (λ c. c - 48) cs)
+
+-- the number that a text is in decimal, if it is one or more digits and below the limit
+abbrev pub decimal-of : ℕ → List ℕ → Option ℕ
+decimal-of limit cs = cond (ltb 0 (length cs) && (all-digits cs && ltb (digits-value cs) limit)) (Some (digits-value cs)) None

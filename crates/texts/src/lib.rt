@@ -1,0 +1,10 @@
+// Texts to bits, and the lines that are read and printed.
+pub mod bits;
+pub mod decimal;
+pub mod hex;
+
+pub use bits::digest;
+pub use bits::text_bits;
+pub use decimal::read_decimal;
+pub use hex::push_hex;
+pub use hex::read_hex;
