@@ -1,1 +1,4 @@
 -- The lemmas of this crate.
+mod Answered
+mod Decimals
+mod Hexes

@@ -21,10 +21,13 @@ hex-byte b = hex-digit (b / 16) ∷ hex-digit (b % 16) ∷ []
 abbrev pub hex : List ℕ → List ℕ
 hex bs = joined hex-byte bs
 
--- a text of 0-9 alone
+-- one of 0-9, and a text of these alone
+abbrev pub is-digit : ℕ → Bool
+is-digit c = leb 48 c && leb c 57
+
 abbrev pub all-digits : List ℕ → Bool
 all-digits [] = true
-all-digits (c ∷ cs) = (leb 48 c && leb c 57) && all-digits cs
+all-digits (c ∷ cs) = is-digit c && all-digits cs
 
 -- the number that digits write
 abbrev pub digits-value : List ℕ → ℕ

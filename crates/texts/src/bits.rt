@@ -27,12 +27,10 @@ pub fn digest<H: RowHasher>(text: &[u8]) -> Number
 fn bits_of(heap: Global, number: &Number, count: u64) -> Result<Vec<bool>, AllocError>
     ensures { λ r. ⌜ made r (λ v. vec-items v ≡ first-bits (valueOf (now (number .entry))) (min count 256)) ⌝ }
 {
+    let all = Number::BITS as u64;
     let mut bits = Vec::new(heap);
-    for place in 0..Number::BITS {
-        if place as u64 >= count {
-            break;
-        }
-        bits.push(number.bit(place))?;
+    for place in 0..count.min(all) {
+        bits.push(number.bit(place as usize))?;
     }
     Ok(bits)
 }

@@ -38,7 +38,8 @@ fn push_byte(out: &mut String, byte: u8) -> Result<(), AllocError>
     ensures { λ r. ⌜ made r (λ _. string-bytes (now (out .exit)) ≡ string-bytes (now (out .entry)) ++ hex-byte byte) ⌝ }
 {
     out.push(digit_of(byte / 16) as char)?;
-    out.push(digit_of(byte % 16) as char)
+    out.push(digit_of(byte % 16) as char)?;
+    Ok(())
 }
 
 pub fn push_hex(out: &mut String, number: &Number) -> Result<(), AllocError>
