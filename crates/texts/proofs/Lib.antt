@@ -2,3 +2,4 @@
 mod Answered
 mod Decimals
 mod Hexes
+mod Lines

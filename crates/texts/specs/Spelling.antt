@@ -1,9 +1,10 @@
 -- How numbers are written, by the codes of ASCII. Assumes nothing: these are definitions.
 use mathlib.Core.Bool.{Bool, true, _&&_, cond}
-use mathlib.Core.List.{List, [], _∷_, map}
+use mathlib.Core.List.{List, [], _∷_, _++_, map}
 use Prim.Native.Nat.{ℕ, _+_, _-_, _/_, _%_}
 use lib.Dec.{ltb, leb}
 use lib.ListN.{length}
+use Rattle.hash.specs.declared.number.Number.{Number}
 use Rattle.std.specs.Joined.{joined}
 use Rattle.std.specs.declared.option.Option.{Option}
 use Rattle.std.specs.declared.option.Option.the-variants.{Some, None}
@@ -20,6 +21,10 @@ hex-byte b = hex-digit (b / 16) ∷ hex-digit (b % 16) ∷ []
 -- bytes in sixteens, one after the other
 abbrev pub hex : List ℕ → List ℕ
 hex bs = joined hex-byte bs
+
+-- a line of numbers: a word, and each number in sixteens after one space
+abbrev pub numbers-line : List ℕ → List Number → List ℕ
+numbers-line word ns = word ++ joined (λ n. 32 ∷ hex (n .bytes)) ns
 
 -- one of 0-9, and a text of these alone
 abbrev pub is-digit : ℕ → Bool

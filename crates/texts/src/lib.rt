@@ -2,9 +2,15 @@
 pub mod bits;
 pub mod decimal;
 pub mod hex;
+pub mod numbers;
+pub mod words;
 
 pub use bits::digest;
 pub use bits::text_bits;
 pub use decimal::read_decimal;
 pub use hex::push_hex;
 pub use hex::read_hex;
+pub use numbers::push_numbers;
+pub use numbers::read_numbers;
+pub use words::after;
+pub use words::word_end;

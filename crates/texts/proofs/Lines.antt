@@ -1,0 +1,59 @@
+-- Lines: what follows a word, and the numbers of a line, one after the other.
+use mathlib.Core.Path.{_≡_, refl, sym, ap, _∙_}
+use mathlib.Core.List.{List, [], _∷_, _++_}
+use Prim.Native.Nat.{ℕ, _+_, _-_, _≤_, _<_}
+use native.Mathlib.Omega.{arith}
+use lib.ListN.{length, getD, take, drop}
+use Rattle.std.specs.Joined.{joined}
+use Rattle.std.proofs.shelf.Lists.{append-assoc, append-nil, drop-at, length-append, joined-more, nil-from-length, take-append-drop, take-at, take-more, take-rest}
+use Rattle.hash.specs.declared.number.Number.{Number}
+use Rattle.texts.specs.Spelling.{hex, numbers-line}
+use Rattle.texts.proofs.Hexes.{length-hex}
+
+-- a number after one space
+abbrev pub spaced : Number → List ℕ
+spaced n = 32 ∷ hex (n .bytes)
+
+pub length-spaced : (n : Number) → length (spaced n) ≡ 65
+length-spaced n = omega (arith, length-hex (n .bytes), n .sized)
+
+-- one number more
+pub numbers-more : (out : List ℕ) (ns : List Number) (i : ℕ) (n : Number) → i < length ns → n ≡ getD ns i n →
+    (out ++ joined spaced (take i ns)) ++ spaced n ≡ out ++ joined spaced (take (i + 1) ns)
+numbers-more out ns i n h e =
+    joined-more spaced out (take i ns) n ∙ ap (λ (ms : List Number). out ++ joined spaced ms) (ap (λ (m : Number). take i ns ++ (m ∷ [])) e ∙ sym (take-more ns i n h))
+
+-- what is left, if it is numbers and not empty, begins with one; then the rest is what follows 65 bytes
+pub first-of : (left : List ℕ) (ns : List Number) → left ≡ joined spaced ns → 0 < length left →
+    (n : Number) × (ms : List Number) × (left ≡ 32 ∷ (hex (n .bytes) ++ joined spaced ms)) × (drop 65 left ≡ joined spaced ms)
+first-of left [] e h = absurd (omega (arith, ap length e))
+first-of left (n ∷ ms) e h = (n, ms, e, ap (drop 65) e ∙ drop-at (spaced n) (joined spaced ms) 65 (length-spaced n))
+
+-- a text that begins with a number after one space is at least 65 bytes, and these are it
+pub number-long : (text : List ℕ) (n : Number) (rest : List ℕ) → text ≡ 32 ∷ (hex (n .bytes) ++ rest) → 65 ≤ length text
+number-long text n rest e = omega (arith, ap length e, length-append (spaced n) rest, length-spaced n)
+
+pub number-at : (text : List ℕ) (n : Number) (rest : List ℕ) → text ≡ 32 ∷ (hex (n .bytes) ++ rest) → take 64 (drop 1 text) ≡ hex (n .bytes)
+number-at text n rest e = ap (λ (cs : List ℕ). take 64 (drop 1 cs)) e ∙ take-at (hex (n .bytes)) rest 64 (omega (arith, length-hex (n .bytes), n .sized))
+
+pub number-back : (text : List ℕ) (n : Number) → 65 ≤ length text → getD text 0 0 ≡ 32 → take 64 (drop 1 text) ≡ hex (n .bytes) → text ≡ 32 ∷ (hex (n .bytes) ++ drop 65 text)
+number-back [] n h s e = absurd (omega arith)
+number-back (c ∷ cs) n h s e =
+    let split = take-append-drop 64 cs in
+    let all : cs ≡ hex (n .bytes) ++ drop 64 cs = sym split ∙ ap (λ (w : List ℕ). w ++ drop 64 cs) e in
+    ap (λ (x : ℕ). x ∷ cs) s ∙ ap (λ (r : List ℕ). 32 ∷ r) all
+
+-- a line that is read number by number: at its start, one number further, and at its end
+pub none-read : (line word rest : List ℕ) (ns : List Number) → ns ≡ [] → line ≡ word ++ rest → line ≡ numbers-line word ns ++ rest
+none-read line word rest ns e f = rw e (f ∙ ap (λ (w : List ℕ). w ++ rest) (sym (append-nil word)))
+
+pub one-read : (line word left : List ℕ) (ns ms : List Number) (n : Number) → line ≡ numbers-line word ns ++ left → left ≡ 32 ∷ (hex (n .bytes) ++ drop 65 left) → ms ≡ ns ++ (n ∷ []) →
+    line ≡ numbers-line word ms ++ take (length left - 65) (drop 65 left)
+one-read line word left ns ms n e f m =
+    let rest = drop 65 left in
+    let split : line ≡ numbers-line word ns ++ (spaced n ++ rest) = e ∙ ap (λ (r : List ℕ). numbers-line word ns ++ r) f in
+    let join = sym (append-assoc (numbers-line word ns) (spaced n) rest) ∙ ap (λ (w : List ℕ). w ++ rest) (joined-more spaced word ns n ∙ ap (λ (k : List Number). word ++ joined spaced k) (sym m)) in
+    split ∙ (join ∙ ap (λ (r : List ℕ). numbers-line word ms ++ r) (sym (take-rest left 65)))
+
+pub all-read : (line word left : List ℕ) (ns : List Number) → length left ≡ 0 → line ≡ numbers-line word ns ++ left → line ≡ numbers-line word ns
+all-read line word left ns z e = e ∙ (ap (λ (r : List ℕ). numbers-line word ns ++ r) (nil-from-length left z) ∙ append-nil (numbers-line word ns))
