@@ -1,6 +1,6 @@
 -- The lemmas of this crate.
 mod Counting
-mod Entries
+pub mod Entries
 mod Know
 mod OneTree
 mod Runs

@@ -3,6 +3,7 @@ pub mod bits;
 pub mod decimal;
 pub mod hex;
 pub mod numbers;
+pub mod session;
 pub mod words;
 
 pub use bits::digest;
@@ -12,5 +13,6 @@ pub use hex::push_hex;
 pub use hex::read_hex;
 pub use numbers::push_numbers;
 pub use numbers::read_numbers;
+pub use session::Session;
 pub use words::after;
 pub use words::word_end;

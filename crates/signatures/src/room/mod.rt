@@ -6,6 +6,7 @@ use hash::Number;
 use keys::Signer;
 
 // The largest signature that a signer can make has place in it. Of the three rows the first `bits`, `bits` and `levels` numbers are in use.
+#[derive(Drop)]
 pub struct SignatureRoom {
     pub(crate) key: u64,
     pub(crate) bits: usize,

@@ -1,0 +1,89 @@
+// What the lines of the program ask, on values: the store, the signer and its bits, and what is signed and looked at with them.
+ghost use mathlib.Core.Path.{_≡_};
+ghost use mathlib.Core.List.{[]};
+ghost use Rattle.hash.specs.Value.{valueOf};
+ghost use Rattle.keys.specs.Refusals.{first, levels-refusal, bits-refusal, Unless};
+ghost use Rattle.tree.specs.Tree.{node};
+ghost use Rattle.signatures.specs.Signatures.{accepted};
+ghost use Rattle.signatures.specs.Views.{viewed};
+ghost use Rattle.signer.specs.Answers.{answer, stored, Room-says};
+ghost use Rattle.std.specs.Of.Vec.{vec-items};
+ghost use Rattle.std.specs.Results.{Cases};
+ghost use Rattle.std.specs.Vec.{made};
+ghost use Rattle.texts.specs.Bits.{bits-of-text};
+use crate::bits::text_bits;
+use hash::Number;
+use hash::RowHasher;
+use keys::Refusal;
+use keys::Signer;
+use signatures::SignatureRoom;
+use signatures::SignatureView;
+use signer::Done;
+use signer::look;
+use signer::refused;
+use signer::sign;
+use std::alloc::AllocError;
+use std::alloc::Global;
+use tree::root;
+
+// What the next lines are asked with.
+#[derive(Drop)]
+pub struct Session {
+    pub signer: Signer,
+    pub bits: u64,
+    pub store: Vec<u32>,
+    pub room: SignatureRoom,
+}
+
+impl Session {
+    // No store, no levels, no bits, and the seed 0.
+    pub fn new(heap: Global) -> Session
+        ensures store { λ r. ⌜ vec-items (r .store) ≡ [] ⌝ }
+        ensures signer { λ r. ⌜ (r .signer .levels ≡ 0) × (r .bits ≡ 0) × (valueOf (r .signer .seed) ≡ 0) ⌝ }
+    {
+        Session {
+            signer: Signer {
+                levels: 0,
+                seed: Number::from_u64(0),
+            },
+            bits: 0,
+            store: Vec::new(heap),
+            room: SignatureRoom::new(),
+        }
+    }
+
+    // The root of the signer's tree.
+    pub fn root<H: RowHasher>(&self) -> Result<Number, Refusal>
+        ensures { λ r. ⌜ Unless (first (levels-refusal (now (self .entry) .signer .levels)) (bits-refusal (now (self .entry) .bits))) r (λ v. valueOf v ≡ node mix (now (self .entry) .bits) (valueOf (now (self .entry) .signer .seed)) (now (self .entry) .signer .levels) 0) ⌝ }
+    {
+        root::<H>(&self.signer, self.bits)
+    }
+
+    // Signs a text. Where memory fails nothing is changed.
+    pub fn sign<H: RowHasher>(&mut self, heap: Global, text: &[u8]) -> Result<Done, AllocError>
+        ensures answer { λ r. ⌜ made r (λ d. d ≡ answer (now (self .entry) .signer .levels) (vec-items (now (self .entry) .store)) (now (self .entry) .bits) 2) ⌝ }
+        ensures store { λ r. ⌜ Cases r (λ _. vec-items (now (self .exit) .store) ≡ stored (now (self .entry) .signer .levels) (vec-items (now (self .entry) .store)) (now (self .entry) .bits) 2) (λ _. vec-items (now (self .exit) .store) ≡ vec-items (now (self .entry) .store)) ⌝ }
+        ensures room { λ r. ⌜ Cases r (λ d. Room-says mix (valueOf (now (self .entry) .signer .seed)) (now (self .entry) .signer .levels) (bits-of-text mix (now (text .entry)) (now (self .entry) .bits)) d (now (self .entry) .room) (now (self .exit) .room)) (λ _. now (self .exit) .room ≡ now (self .entry) .room) ⌝ }
+        ensures same { λ _. ⌜ (now (self .exit) .signer ≡ now (self .entry) .signer) × (now (self .exit) .bits ≡ now (self .entry) .bits) ⌝ }
+    {
+        if let Some(refusal) = refused(self.signer.levels, &self.store, self.bits) {
+            return Ok(Done::Refused(refusal));
+        }
+        let bits = text_bits::<H>(heap, text, self.bits)?;
+        Ok(sign::<H>(&self.signer, &bits, &mut self.store, &mut self.room))
+    }
+
+    // Looks at a signature of a text.
+    pub fn look<H: RowHasher>(
+        &self,
+        heap: Global,
+        root: &Number,
+        text: &[u8],
+        signature: SignatureView<'_>,
+    ) -> Result<bool, AllocError>
+        ensures { λ r. ⌜ made r (λ b. b ≡ accepted mix (valueOf (now (root .entry))) (now (self .entry) .signer .levels) (bits-of-text mix (now (text .entry)) (now (self .entry) .bits)) (viewed (signature .entry))) ⌝ }
+    {
+        let bits = text_bits::<H>(heap, text, self.bits)?;
+        Ok(look::<H>(root, self.signer.levels, &bits, signature))
+    }
+}
