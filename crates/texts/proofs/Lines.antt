@@ -57,3 +57,8 @@ one-read line word left ns ms n e f m =
 
 pub all-read : (line word left : List ℕ) (ns : List Number) → length left ≡ 0 → line ≡ numbers-line word ns ++ left → line ≡ numbers-line word ns
 all-read line word left ns z e = e ∙ (ap (λ (r : List ℕ). numbers-line word ns ++ r) (nil-from-length left z) ∙ append-nil (numbers-line word ns))
+
+-- four texts, one after the other
+pub four-more : (o p q r s a b c d : List ℕ) → p ≡ o ++ a → q ≡ p ++ b → r ≡ q ++ c → s ≡ r ++ d → s ≡ o ++ (a ++ (b ++ (c ++ d)))
+four-more o p q r s a b c d e f g h =
+    h ∙ rw (g, f, e) (append-assoc ((o ++ a) ++ b) c d ∙ (append-assoc (o ++ a) b (c ++ d) ∙ append-assoc o a (b ++ (c ++ d))))

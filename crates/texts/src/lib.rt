@@ -4,6 +4,7 @@ pub mod decimal;
 pub mod hex;
 pub mod numbers;
 pub mod session;
+pub mod signature;
 pub mod words;
 
 pub use bits::digest;
@@ -14,5 +15,8 @@ pub use hex::read_hex;
 pub use numbers::push_numbers;
 pub use numbers::read_numbers;
 pub use session::Session;
+pub use signature::ReadSignature;
+pub use signature::push_signature;
+pub use signature::read_key;
 pub use words::after;
 pub use words::word_end;

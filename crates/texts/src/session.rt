@@ -1,12 +1,17 @@
 // What the lines of the program ask, on values: the store, the signer and its bits, and what is signed and looked at with them.
 ghost use mathlib.Core.Path.{_≡_};
+ghost use mathlib.Core.Bool.{true};
 ghost use mathlib.Core.List.{[]};
+ghost use mathlib.Core.Logic.{_⊎_};
+ghost use Prim.Native.Nat.{ℕ};
 ghost use Rattle.hash.specs.Value.{valueOf};
 ghost use Rattle.keys.specs.Refusals.{first, levels-refusal, bits-refusal, Unless};
 ghost use Rattle.tree.specs.Tree.{node};
+ghost use Rattle.signatures.specs.Rows.{Located-collision};
 ghost use Rattle.signatures.specs.Signatures.{accepted};
 ghost use Rattle.signatures.specs.Views.{viewed};
-ghost use Rattle.signer.specs.Answers.{answer, stored, Room-says};
+ghost use Rattle.signer.specs.Answers.{answer, stored, Room-says, Given-accepted};
+ghost use Rattle.signer.specs.Promises.{Own};
 ghost use Rattle.std.specs.Of.Vec.{vec-items};
 ghost use Rattle.std.specs.Results.{Cases};
 ghost use Rattle.std.specs.Vec.{made};
@@ -64,6 +69,7 @@ impl Session {
         ensures answer { λ r. ⌜ made r (λ d. d ≡ answer (now (self .entry) .signer .levels) (vec-items (now (self .entry) .store)) (now (self .entry) .bits) 2) ⌝ }
         ensures store { λ r. ⌜ Cases r (λ _. vec-items (now (self .exit) .store) ≡ stored (now (self .entry) .signer .levels) (vec-items (now (self .entry) .store)) (now (self .entry) .bits) 2) (λ _. vec-items (now (self .exit) .store) ≡ vec-items (now (self .entry) .store)) ⌝ }
         ensures room { λ r. ⌜ Cases r (λ d. Room-says mix (valueOf (now (self .entry) .signer .seed)) (now (self .entry) .signer .levels) (bits-of-text mix (now (text .entry)) (now (self .entry) .bits)) d (now (self .entry) .room) (now (self .exit) .room)) (λ _. now (self .exit) .room ≡ now (self .entry) .room) ⌝ }
+        ensures accepted { λ r. ⌜ made r (λ d. Given-accepted mix (valueOf (now (self .entry) .signer .seed)) (now (self .entry) .signer .levels) (bits-of-text mix (now (text .entry)) (now (self .entry) .bits)) d (now (self .exit) .room)) ⌝ }
         ensures same { λ _. ⌜ (now (self .exit) .signer ≡ now (self .entry) .signer) × (now (self .exit) .bits ≡ now (self .entry) .bits) ⌝ }
     {
         if let Some(refusal) = refused(self.signer.levels, &self.store, self.bits) {
@@ -73,7 +79,7 @@ impl Session {
         Ok(sign::<H>(&self.signer, &bits, &mut self.store, &mut self.room))
     }
 
-    // Looks at a signature of a text.
+    // Looks at a signature of a text. If it is accepted, then of every signer whose root this is it is that signer's own, or two rows are shown that hash to the same.
     pub fn look<H: RowHasher>(
         &self,
         heap: Global,
@@ -81,7 +87,8 @@ impl Session {
         text: &[u8],
         signature: SignatureView<'_>,
     ) -> Result<bool, AllocError>
-        ensures { λ r. ⌜ made r (λ b. b ≡ accepted mix (valueOf (now (root .entry))) (now (self .entry) .signer .levels) (bits-of-text mix (now (text .entry)) (now (self .entry) .bits)) (viewed (signature .entry))) ⌝ }
+        ensures answer { λ r. ⌜ made r (λ b. b ≡ accepted mix (valueOf (now (root .entry))) (now (self .entry) .signer .levels) (bits-of-text mix (now (text .entry)) (now (self .entry) .bits)) (viewed (signature .entry))) ⌝ }
+        ensures own { λ r. ⌜ made r (λ b. (s l n : ℕ) → b ≡ true → valueOf (now (root .entry)) ≡ node mix n s l 0 → Own mix s l n (now (self .entry) .signer .levels) (bits-of-text mix (now (text .entry)) (now (self .entry) .bits)) (viewed (signature .entry)) ⊎ Located-collision mix n s l (bits-of-text mix (now (text .entry)) (now (self .entry) .bits)) (viewed (signature .entry))) ⌝ }
     {
         let bits = text_bits::<H>(heap, text, self.bits)?;
         Ok(look::<H>(root, self.signer.levels, &bits, signature))

@@ -11,7 +11,7 @@ use Rattle.std.proofs.shelf.Counted.{length-map-counting}
 use Rattle.std.proofs.shelf.Lists.{refilled-is}
 use Rattle.hash.specs.Value.{valueOf, bytes-of, bit-at}
 use Rattle.keys.proofs.Refused.{bits-taken}
-use Rattle.signer.specs.Answers.{refusal, answer, stored, Room-says}
+use Rattle.signer.specs.Answers.{refusal, answer, stored, Room-says, Given-accepted}
 use Rattle.signer.proofs.Entries.{taken}
 use Rattle.texts.specs.Bits.{text-row, bits-of-text}
 use Rattle.texts.proofs.session.Session.sign.Needs as need
@@ -37,5 +37,6 @@ returns g c =
       answer = c .sign .ensures .answer ∙ same-at (λ x k. answer l x k 2) lent count;
       store = refilled-is (self .store) (c .sign .last .store) (c .sign .kept .store ∙ c .deref-mut .ensures .len) ∙ (c .sign .ensures .store ∙ same-at (λ x k. stored l x k 2) lent count);
       room = subst (λ (bs : List Bool). Room-says h s l bs (c .sign .result) (self .room) (c .sign .last .room)) row (c .sign .ensures .room);
+      accepted = subst (λ (bs : List Bool). Given-accepted h s l bs (c .sign .result) (c .sign .last .room)) row (c .sign .ensures .accepted);
       same = (refl, refl);
     }
