@@ -1,11 +1,13 @@
 -- Lines: what follows a word, and the numbers of a line, one after the other.
 use mathlib.Core.Path.{_≡_, refl, sym, ap, _∙_}
-use mathlib.Core.List.{List, [], _∷_, _++_}
+use mathlib.Core.List.{List, [], _∷_, _++_, map}
 use Prim.Native.Nat.{ℕ, _+_, _-_, _≤_, _<_}
 use native.Mathlib.Omega.{arith}
 use lib.ListN.{length, getD, take, drop}
 use Rattle.std.specs.Joined.{joined}
-use Rattle.std.proofs.shelf.Lists.{append-assoc, append-nil, drop-at, length-append, joined-more, nil-from-length, take-append-drop, take-at, take-more, take-rest}
+use Rattle.std.specs.declared.option.Option.{Option}
+use Rattle.std.specs.declared.option.Option.the-variants.{Some}
+use Rattle.std.proofs.shelf.Lists.{append-assoc, append-nil, drop-at, length-append, joined-more, map-push, nil-from-length, take-append-drop, take-at, take-more, take-rest}
 use Rattle.hash.specs.declared.number.Number.{Number}
 use Rattle.texts.specs.Spelling.{hex, numbers-line}
 use Rattle.texts.proofs.Hexes.{length-hex}
@@ -62,3 +64,30 @@ all-read line word left ns z e = e ∙ (ap (λ (r : List ℕ). numbers-line word
 pub four-more : (o p q r s a b c d : List ℕ) → p ≡ o ++ a → q ≡ p ++ b → r ≡ q ++ c → s ≡ r ++ d → s ≡ o ++ (a ++ (b ++ (c ++ d)))
 four-more o p q r s a b c d e f g h =
     h ∙ rw (g, f, e) (append-assoc ((o ++ a) ++ b) c d ∙ (append-assoc (o ++ a) b (c ++ d) ∙ append-assoc o a (b ++ (c ++ d))))
+
+-- a text cut at a place, where what is left begins with a word
+pub cut-at : (text word rest : List ℕ) (e : ℕ) → take (length text - e) (drop e text) ≡ word ++ rest → text ≡ take e text ++ (word ++ rest)
+cut-at text word rest e f = sym (take-append-drop e text) ∙ ap (λ (r : List ℕ). take e text ++ r) (sym (take-rest text e) ∙ f)
+
+-- words after one space each, and what each reads as: one word further, and with nothing left
+abbrev pub Words-read : (List ℕ → Option ℕ) → (text left : List ℕ) → List ℕ → Type 0
+Words-read read text left vs = (ws : List (List ℕ)) × (text ≡ joined (λ w. 32 ∷ w) ws ++ left) × (map read ws ≡ map (λ v. Some v) vs)
+
+pub word-more : (read : List ℕ → Option ℕ) (text left : List ℕ) (vs us : List ℕ) (e v : ℕ) (w : List ℕ) → Words-read read text left vs → take (e - 0) left ≡ 32 ∷ w → read w ≡ Some v → us ≡ vs ++ (v ∷ []) →
+    Words-read read text (take (length left - e) (drop e left)) us
+word-more read text left vs us e v w r f g h =
+    let z : e - 0 ≡ e = omega arith in
+    let front : take e left ≡ 32 ∷ w = rw z at f in
+    let rest = drop e left in
+    let split : left ≡ (32 ∷ w) ++ rest = sym (take-append-drop e left) ∙ ap (λ (k : List ℕ). k ++ rest) front in
+    let words = joined (λ (x : List ℕ). 32 ∷ x) (r .0) in
+    let whole : text ≡ words ++ ((32 ∷ w) ++ rest) = r .1 ∙ ap (λ (k : List ℕ). words ++ k) split in
+    let join = sym (append-assoc words (32 ∷ w) rest) ∙ ap (λ (k : List ℕ). k ++ rest) (joined-more (λ (x : List ℕ). 32 ∷ x) [] (r .0) w) in
+    let back = ap (λ (k : List ℕ). joined (λ (x : List ℕ). 32 ∷ x) (r .0 ++ (w ∷ [])) ++ k) (sym (take-rest left e)) in
+    let reads : map read (r .0 ++ (w ∷ [])) ≡ map (λ (x : ℕ). Some x) us =
+    map-push read (r .0) w ∙ (ap (λ (k : List (Option ℕ)). k ++ (read w ∷ [])) (r .2) ∙ (ap (λ (o : Option ℕ). map (λ (x : ℕ). Some x) vs ++ (o ∷ [])) g ∙ sym (ap (λ (k : List ℕ). map (λ (x : ℕ). Some x) k) h ∙ map-push (λ (x : ℕ). Some x) vs v))) in
+    (r .0 ++ (w ∷ []), whole ∙ (join ∙ back), reads)
+
+pub words-all : (read : List ℕ → Option ℕ) (text left : List ℕ) (vs : List ℕ) → length left ≡ 0 → Words-read read text left vs →
+    (ws : List (List ℕ)) × (text ≡ joined (λ w. 32 ∷ w) ws) × (map read ws ≡ map (λ v. Some v) vs)
+words-all read text left vs z r = (r .0, r .1 ∙ (ap (λ (k : List ℕ). joined (λ (x : List ℕ). 32 ∷ x) (r .0) ++ k) (nil-from-length left z) ∙ append-nil _), r .2)

@@ -1,3 +1,4 @@
 -- The definitions that the contracts of this crate cite.
 pub mod Bits
+pub mod Commands
 pub mod Spelling

@@ -1,5 +1,6 @@
 // Texts to bits, and the lines that are read and printed.
 pub mod bits;
+pub mod command;
 pub mod decimal;
 pub mod hex;
 pub mod numbers;
@@ -9,6 +10,9 @@ pub mod words;
 
 pub use bits::digest;
 pub use bits::text_bits;
+pub use command::Command;
+pub use command::Levels;
+pub use command::read_command;
 pub use decimal::read_decimal;
 pub use hex::push_hex;
 pub use hex::read_hex;

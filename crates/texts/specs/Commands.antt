@@ -1,0 +1,33 @@
+-- How the lines that ask for something are written. Assumes nothing: these are definitions.
+use mathlib.Core.Path.{_≡_}
+use mathlib.Core.List.{List, _∷_, _++_, map}
+use Prim.Native.Nat.{ℕ, _^_}
+use denote.Ref.{now}
+use lib.Chars.{codes}
+use Rattle.hash.specs.declared.number.Number.{Number}
+use Rattle.std.specs.Joined.{joined}
+use Rattle.std.specs.Of.Vec.{vec-items}
+use Rattle.std.specs.declared.option.Option.{Option}
+use Rattle.std.specs.declared.option.Option.the-variants.{Some}
+use Rattle.texts.specs.Spelling.{hex, decimal-of}
+use Rattle.texts.specs.declared.command.Command.{Command}
+use Rattle.texts.specs.declared.command.Command.the-variants.{Store, Levels, Root, Sign, Look}
+use Rattle.texts.specs.declared.command.Levels.{Levels as LevelsAsked}
+
+-- three decimals, with the words between them
+abbrev pub Levels-spelled : List ℕ → LevelsAsked → Type 0
+Levels-spelled cs v =
+    (x : List ℕ) × (y : List ℕ) × (z : List ℕ) × (cs ≡ x ++ (codes " bits " ++ (y ++ (codes " seed " ++ z))))
+    × (decimal-of (2 ^ 64) x ≡ Some (v .levels)) × (decimal-of (2 ^ 64) y ≡ Some (v .bits)) × (decimal-of (2 ^ 64) z ≡ Some (v .seed))
+
+-- decimals below 2^32, each after one space
+abbrev pub Store-spelled : List ℕ → List ℕ → Type 0
+Store-spelled cs vs = (ws : List (List ℕ)) × (cs ≡ joined (λ w. 32 ∷ w) ws) × (map (decimal-of (2 ^ 32)) ws ≡ map (λ v. Some v) vs)
+
+-- a line is a command, written out
+abbrev pub Spelled : List ℕ → Command → Type 0
+Spelled cs (Store v) = (rest : List ℕ) × (cs ≡ codes "store" ++ rest) × Store-spelled rest (vec-items v)
+Spelled cs (Levels v) = (rest : List ℕ) × (cs ≡ codes "levels " ++ rest) × Levels-spelled rest v
+Spelled cs Root = cs ≡ codes "root"
+Spelled cs (Sign t) = cs ≡ codes "sign " ++ vec-items t
+Spelled cs (Look r t) = cs ≡ codes "look " ++ (hex (r .bytes) ++ (codes " " ++ vec-items t))
