@@ -1,5 +1,5 @@
 -- The lemmas of this crate.
 pub mod Members
-mod Numbers
+pub mod Numbers
 mod Runs
 pub mod Rows

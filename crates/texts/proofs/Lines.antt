@@ -8,7 +8,9 @@ use Rattle.std.specs.Joined.{joined}
 use Rattle.std.specs.declared.option.Option.{Option}
 use Rattle.std.specs.declared.option.Option.the-variants.{Some}
 use Rattle.std.proofs.shelf.Lists.{append-assoc, append-nil, drop-at, length-append, joined-more, map-push, nil-from-length, take-append-drop, take-at, take-more, take-rest}
+use Rattle.hash.specs.Value.{valueOf, bytes-of}
 use Rattle.hash.specs.declared.number.Number.{Number}
+use Rattle.hash.proofs.Numbers.{bytes-back}
 use Rattle.texts.specs.Spelling.{hex, numbers-line}
 use Rattle.texts.proofs.Hexes.{length-hex}
 
@@ -18,6 +20,11 @@ spaced n = 32 ∷ hex (n .bytes)
 
 pub length-spaced : (n : Number) → length (spaced n) ≡ 65
 length-spaced n = omega (arith, length-hex (n .bytes), n .sized)
+
+-- a number is written by its meaning
+pub by-values : (ns : List Number) → joined spaced ns ≡ joined (λ v. 32 ∷ hex (bytes-of v)) (map valueOf ns)
+by-values [] = refl
+by-values (n ∷ ns) = let b = bytes-back n in let r = by-values ns in cc
 
 -- one number more
 pub numbers-more : (out : List ℕ) (ns : List Number) (i : ℕ) (n : Number) → i < length ns → n ≡ getD ns i n →

@@ -1,4 +1,5 @@
 -- The definitions that the contracts of this crate cite.
 pub mod Bits
 pub mod Commands
+pub mod Replies
 pub mod Spelling

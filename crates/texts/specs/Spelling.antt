@@ -2,12 +2,10 @@
 use mathlib.Core.Bool.{Bool, true, _&&_, cond}
 use mathlib.Core.List.{List, [], _∷_, _++_, map}
 use Prim.Native.Nat.{ℕ, _+_, _-_, _/_, _%_}
-use lib.Chars.{codes}
 use lib.Dec.{ltb, leb}
 use lib.ListN.{length}
 use Rattle.hash.specs.declared.number.Number.{Number}
 use Rattle.std.specs.Joined.{joined}
-use Rattle.std.specs.Written.{decimal}
 use Rattle.std.specs.declared.option.Option.{Option}
 use Rattle.std.specs.declared.option.Option.the-variants.{Some, None}
 use Rattle.std.specs.shelf.Digits.{number}
@@ -43,8 +41,3 @@ digits-value cs = number 10 (map (λ c. c - 48) cs)
 -- the number that a text is in decimal, if it is one or more digits and below the limit
 abbrev pub decimal-of : ℕ → List ℕ → Option ℕ
 decimal-of limit cs = cond (ltb 0 (length cs) && (all-digits cs && ltb (digits-value cs) limit)) (Some (digits-value cs)) None
-
--- the four lines of a signature, with a newline before each but the first
-abbrev pub signature-lines : (key : ℕ) → (parts others path : List Number) → List ℕ
-signature-lines k ps os qs =
-    codes "key " ++ (decimal k ++ (numbers-line (codes "\nparts") ps ++ (numbers-line (codes "\nothers") os ++ numbers-line (codes "\npath") qs)))

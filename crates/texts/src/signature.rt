@@ -10,7 +10,8 @@ ghost use Rattle.std.specs.Of.Vec.{vec-items};
 ghost use Rattle.std.specs.Options.{Cases};
 ghost use Rattle.std.specs.Vec.{made};
 ghost use Rattle.std.specs.declared.option.Option.the-variants.{Some};
-ghost use Rattle.texts.specs.Spelling.{decimal-of, signature-lines};
+ghost use Rattle.texts.specs.Replies.{signature-text};
+ghost use Rattle.texts.specs.Spelling.{decimal-of};
 use crate::decimal::read_decimal;
 use crate::numbers::push_numbers;
 use crate::words::after;
@@ -56,7 +57,7 @@ pub fn push_signature(
     out: &mut String,
     signature: SignatureView<'_>,
 ) -> Result<(), AllocError>
-    ensures { λ r. ⌜ made r (λ _. string-bytes (now (out .exit)) ≡ string-bytes (now (out .entry)) ++ signature-lines (signature .entry .key) (now (signature .entry .parts)) (now (signature .entry .others)) (now (signature .entry .path))) ⌝ }
+    ensures { λ r. ⌜ made r (λ _. string-bytes (now (out .exit)) ≡ string-bytes (now (out .entry)) ++ signature-text (viewed (signature .entry))) ⌝ }
 {
     let key = signature.key;
     let first = format!(heap, "key {key}")?;

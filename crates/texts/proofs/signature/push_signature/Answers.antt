@@ -1,18 +1,28 @@
--- One line after the other.
+-- One line after the other, each number by its meaning.
 use mathlib.Core.Path.{_≡_, ap, _∙_}
 use mathlib.Core.List.{List, _++_}
 use Prim.Native.Nat.{ℕ}
 use lib.Chars.{codes}
+use Rattle.hash.specs.declared.number.Number.{Number}
+use Rattle.signatures.specs.Views.{viewed}
 use Rattle.std.specs.Of.String.{string-bytes}
 use Rattle.std.specs.Written.{decimal}
-use Rattle.texts.specs.Spelling.{numbers-line}
-use Rattle.texts.proofs.Lines.{four-more}
+use Rattle.texts.specs.Replies.{numbers-text}
+use Rattle.texts.proofs.Lines.{by-values, four-more}
 use Rattle.texts.proofs.signature.push_signature.Needs as need
 
 pub returns : need.returns
 returns c =
     let out = string-bytes (c .args .out .now) in
+    let g = viewed (c .args .signature) in
     let key = codes "key " ++ decimal (c .args .signature .key) in
     let text : string-bytes (c .in-Continue-first .first) ≡ key = c .in-Continue-first .ensures tt .made in
-    let first : string-bytes (c .push-str .last .self) ≡ out ++ key = c .in-Continue-push-str .ensures tt .bytes ∙ ap (λ (t : List ℕ). out ++ t) (c .deref .ensures ∙ text) in
-    four-more out (string-bytes (c .push-str .last .self)) (string-bytes (c .push-numbers .last .out)) (string-bytes (c .push-numbers-2 .last .out)) (string-bytes (c .push-numbers-3 .last .out)) key (numbers-line (codes "\nparts") (c .args .signature .parts .now)) (numbers-line (codes "\nothers") (c .args .signature .others .now)) (numbers-line (codes "\npath") (c .args .signature .path .now)) first (c .in-Continue-push-numbers .ensures tt) (c .in-Continue-push-numbers-2 .ensures tt) (c .in-Continue-push-numbers-3 .ensures tt)
+    let p = string-bytes (c .push-str .last .self) in
+    let q = string-bytes (c .push-numbers .last .out) in
+    let r = string-bytes (c .push-numbers-2 .last .out) in
+    let s = string-bytes (c .push-numbers-3 .last .out) in
+    let first : p ≡ out ++ key = c .in-Continue-push-str .ensures tt .bytes ∙ ap (λ (t : List ℕ). out ++ t) (c .deref .ensures ∙ text) in
+    let parts : q ≡ p ++ numbers-text (codes "\nparts") (g .parts) = c .in-Continue-push-numbers .ensures tt ∙ ap (λ (t : List ℕ). p ++ (codes "\nparts" ++ t)) (by-values (c .args .signature .parts .now)) in
+    let others : r ≡ q ++ numbers-text (codes "\nothers") (g .others) = c .in-Continue-push-numbers-2 .ensures tt ∙ ap (λ (t : List ℕ). q ++ (codes "\nothers" ++ t)) (by-values (c .args .signature .others .now)) in
+    let path : s ≡ r ++ numbers-text (codes "\npath") (g .path) = c .in-Continue-push-numbers-3 .ensures tt ∙ ap (λ (t : List ℕ). r ++ (codes "\npath" ++ t)) (by-values (c .args .signature .path .now)) in
+    four-more out p q r s key (numbers-text (codes "\nparts") (g .parts)) (numbers-text (codes "\nothers") (g .others)) (numbers-text (codes "\npath") (g .path)) first parts others path
