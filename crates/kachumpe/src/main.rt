@@ -1,4 +1,13 @@
 // The program: it reads lines, asks the parts beneath, and prints what they answer.
+ghost use mathlib.Core.Path.{_≡_};
+ghost use Rattle.keys.specs.Refusals.{refusal-number};
+ghost use Rattle.std.specs.Of.Vec.{vec-items};
+ghost use Rattle.std.specs.Options.{Cases as ByOption};
+ghost use Rattle.std.specs.Results.{Cases as ByResult};
+ghost use Rattle.std.specs.Vec.{made};
+ghost use Rattle.std.specs.declared.option.Option.the-variants.{None};
+ghost use Rattle.texts.specs.Spelling.{numbers-line};
+
 mod input;
 
 use hash::Number;
@@ -36,7 +45,9 @@ fn numbers_of(
 }
 
 // The key of a line, where there is one.
-fn key_of(line: &Option<Vec<u8>>) -> Option<u64> {
+fn key_of(line: &Option<Vec<u8>>) -> Option<u64>
+    ensures { λ r. ⌜ (now (line .entry) ≡ None → r ≡ None) ⌝ }
+{
     match line {
         Some(line) => read_key(line),
         None => None,
@@ -47,7 +58,9 @@ fn key_of(line: &Option<Vec<u8>>) -> Option<u64> {
 fn read_signature<R: BufRead>(
     heap: Global,
     input: &mut Input<R>,
-) -> Result<Result<ReadSignature, Refusal>, AnyError> {
+) -> Result<Result<ReadSignature, Refusal>, AnyError>
+    ensures { λ r. ⌜ made r (λ s. ByResult s (λ _. Unit {0}) (λ e. refusal-number e ≡ 5)) ⌝ }
+{
     let at = input.next_number();
     let first = input.line(heap)?;
     let second = input.line(heap)?;
