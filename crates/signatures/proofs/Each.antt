@@ -7,8 +7,8 @@ use Prim.Native.Nat.{ℕ, zero, suc, _+_, _<_}
 use native.Mathlib.Nat.{zero-add}
 use native.Mathlib.Numerals.{add-one}
 use native.Mathlib.Omega.{arith}
-use lib.ListN.{length, getD, take, set}
-use Rattle.std.proofs.shelf.Lists.{map-append, take-more-set}
+use lib.ListN.{length, getD, take, drop, set}
+use Rattle.std.proofs.shelf.Lists.{drop-drop, drop-set-lt, map-append, take-more-set}
 use Rattle.hash.specs.Members.{In}
 use Rattle.signatures.specs.Signatures.{each-from}
 
@@ -44,3 +44,9 @@ each-more v f bs xs k x hb hx e so-far =
     let t = ap (map v) (take-more-set xs k x hx) ∙ map-append v (take k xs) (x ∷ []) in
     let p = each-push f 0 bs k k hb (zero-add k) in
     t ∙ (rw (so-far, e, add-one k) (sym p))
+
+-- what stands behind the number that is written is as it was
+pub behind-more : (X : Type 0) (xs ys : List X) (k : ℕ) (x : X) → drop k xs ≡ drop k ys → drop (k + 1) (set xs k x) ≡ drop (k + 1) ys
+behind-more X xs ys k x e =
+    let far : k < k + 1 = omega arith in
+    drop-set-lt (k + 1) xs k x far ∙ (sym (drop-drop 1 k xs) ∙ (ap (λ (zs : List X). drop 1 zs) e ∙ drop-drop 1 k ys))

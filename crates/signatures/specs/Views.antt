@@ -1,7 +1,8 @@
 -- The signature that is behind a view, and that a room holds. Assumes nothing: these are definitions.
+use mathlib.Core.Path.{_≡_}
 use mathlib.Core.List.{map}
 use denote.Ref.{now}
-use lib.ListN.{take}
+use lib.ListN.{take, drop}
 use Rattle.hash.specs.Value.{valueOf}
 use Rattle.signatures.specs.Signatures.{Signature}
 use Rattle.signatures.specs.declared.room.SignatureRoom.{SignatureRoom}
@@ -20,3 +21,11 @@ held m =
       others = map valueOf (take (m .bits) (m .others));
       path = map valueOf (take (m .levels) (m .path));
     }
+
+-- a signature was made in a room: the room holds it, and what is not in use for it is as it was
+abbrev pub Made-in : Signature → (before after : SignatureRoom) → Type 0
+Made-in g m m₁ =
+    (held m₁ ≡ g)
+    × (drop (m₁ .bits) (m₁ .parts) ≡ drop (m₁ .bits) (m .parts))
+    × (drop (m₁ .bits) (m₁ .others) ≡ drop (m₁ .bits) (m .others))
+    × (drop (m₁ .levels) (m₁ .path) ≡ drop (m₁ .levels) (m .path))

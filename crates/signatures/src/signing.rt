@@ -2,12 +2,12 @@
 ghost use mathlib.Core.Path.{_≡_};
 ghost use mathlib.Core.List.{map};
 ghost use Prim.Native.Nat.{_≤_};
-ghost use lib.ListN.{length, take};
+ghost use lib.ListN.{length, take, drop};
 ghost use Rattle.hash.specs.Value.{valueOf};
 ghost use Rattle.keys.specs.Refusals.{first, levels-refusal, bits-refusal, Unless};
 ghost use Rattle.std.specs.Results.{Cases};
 ghost use Rattle.signatures.specs.Signatures.{parts-from, others-from, signed};
-ghost use Rattle.signatures.specs.Views.{held};
+ghost use Rattle.signatures.specs.Views.{Made-in};
 use crate::room::SignatureRoom;
 use hash::Number;
 use hash::RowHasher;
@@ -15,7 +15,7 @@ use keys::OneTimeKey;
 use keys::Refusal;
 use keys::Signer;
 
-// Writes for each bit its secret number, and what is shown of the other one.
+// Writes for each bit its secret number, and what is shown of the other one, and nothing behind them.
 fn reveal<H: RowHasher>(
     key: &OneTimeKey,
     bits: &[bool],
@@ -25,6 +25,7 @@ fn reveal<H: RowHasher>(
     requires parts { ⌜ length (now bits) ≤ length (now parts) ⌝ }
     requires others { ⌜ length (now bits) ≤ length (now others) ⌝ }
     ensures parts { λ _. ⌜ map valueOf (take (length (now (bits .entry))) (now (parts .exit))) ≡ parts-from mix (valueOf (now (key .entry) .seed)) (now (key .entry) .index) 0 (now (bits .entry)) ⌝ }
+    ensures rest { λ _. ⌜ (drop (length (now (bits .entry))) (now (parts .exit)) ≡ drop (length (now (bits .entry))) (now (parts .entry))) × (drop (length (now (bits .entry))) (now (others .exit)) ≡ drop (length (now (bits .entry))) (now (others .entry))) ⌝ }
     ensures others { λ _. ⌜ map valueOf (take (length (now (bits .entry))) (now (others .exit))) ≡ others-from mix (valueOf (now (key .entry) .seed)) (now (key .entry) .index) 0 (now (bits .entry)) ⌝ }
 {
     for j in 0..bits.len() {
@@ -41,7 +42,7 @@ pub fn sign_with<H: RowHasher>(
     bits: &[bool],
     room: &mut SignatureRoom,
 ) -> Result<(), Refusal>
-    ensures answer { λ r. ⌜ Unless (first (levels-refusal (now (signer .entry) .levels)) (bits-refusal (length (now (bits .entry))))) r (λ _. held (now (room .exit)) ≡ signed mix (valueOf (now (signer .entry) .seed)) (now (signer .entry) .levels) key (now (bits .entry))) ⌝ }
+    ensures answer { λ r. ⌜ Unless (first (levels-refusal (now (signer .entry) .levels)) (bits-refusal (length (now (bits .entry))))) r (λ _. Made-in (signed mix (valueOf (now (signer .entry) .seed)) (now (signer .entry) .levels) key (now (bits .entry))) (now (room .entry)) (now (room .exit))) ⌝ }
     ensures same { λ r. ⌜ Cases r (λ _. Unit {0}) (λ _. now (room .exit) ≡ now (room .entry)) ⌝ }
 {
     if let Some(refusal) = Signer::refuse_levels(signer.levels) {

@@ -13,7 +13,7 @@ use Rattle.keys.specs.declared.refusal.Refusal.{Refusal}
 use Rattle.keys.specs.declared.refusal.Refusal.the-variants.{Store, NextKey}
 use Rattle.tree.specs.Tree.{power, node}
 use Rattle.signatures.specs.Signatures.{Signature, signed, accepted}
-use Rattle.signatures.specs.Views.{held}
+use Rattle.signatures.specs.Views.{held, Made-in}
 use Rattle.signatures.specs.declared.room.SignatureRoom.{SignatureRoom}
 use Rattle.signer.specs.Store.{next, sound, step, gives}
 use Rattle.signer.specs.declared.answer.Done.{Done}
@@ -60,9 +60,9 @@ unless-refused None x y = y
 abbrev pub stored : (levels : ℕ) → List ℕ → (bits writes : ℕ) → List ℕ
 stored l m n w = unless-refused (refusal l m n) m (step l m w)
 
--- the room afterwards: where a key is given, it holds the signature by that key, and else it is as it was
+-- the room afterwards: where a key is given, the signature by that key was made in it, and else it is as it was
 abbrev pub Room-says : Mix → (seed levels : ℕ) → List Bool → Done → (before after : SignatureRoom) → Type 0
-Room-says h s l bs (Key i) r r₁ = held r₁ ≡ signed h s l i bs
+Room-says h s l bs (Key i) r r₁ = Made-in (signed h s l i bs) r r₁
 Room-says h s l bs Cut r r₁ = r₁ ≡ r
 Room-says h s l bs Empty r r₁ = r₁ ≡ r
 Room-says h s l bs (Refused e) r r₁ = r₁ ≡ r

@@ -10,7 +10,7 @@ ghost use Rattle.keys.specs.Refusals.{levels-refusal, bits-refusal};
 ghost use Rattle.tree.specs.Tree.{node};
 ghost use Rattle.signatures.specs.Rows.{Located-collision};
 ghost use Rattle.signatures.specs.Signatures.{signed, accepted};
-ghost use Rattle.signatures.specs.Views.{viewed, held};
+ghost use Rattle.signatures.specs.Views.{viewed, Made-in};
 ghost use Rattle.std.specs.declared.option.Option.the-variants.{None};
 ghost use Rattle.signer.specs.Answers.{key-refusal, refusal, answer, stored, Room-says, Given-accepted};
 ghost use Rattle.signer.specs.Promises.{Own};
@@ -79,7 +79,7 @@ fn sign_counted<H: RowHasher>(
     requires levels { ⌜ None ≡ levels-refusal (now signer .levels) ⌝ }
     requires bits { ⌜ None ≡ bits-refusal (length (now bits)) ⌝ }
     ensures answer { λ r. ⌜ r ≡ Key (next (now (store .entry)) - 1) ⌝ }
-    ensures room { λ _. ⌜ held (now (room .exit)) ≡ signed mix (valueOf (now (signer .entry) .seed)) (now (signer .entry) .levels) (next (now (store .entry)) - 1) (now (bits .entry)) ⌝ }
+    ensures room { λ _. ⌜ Made-in (signed mix (valueOf (now (signer .entry) .seed)) (now (signer .entry) .levels) (next (now (store .entry)) - 1) (now (bits .entry))) (now (room .entry)) (now (room .exit)) ⌝ }
 {
     let key = u64::from(next_key(store)) - 1;
     match sign_with::<H>(signer, key, bits, room) {
@@ -102,7 +102,7 @@ fn sign_next<H: RowHasher>(
     requires bits { ⌜ None ≡ bits-refusal (length (now bits)) ⌝ }
     ensures answer { λ r. ⌜ r ≡ Key (next (now (store .entry))) ⌝ }
     ensures store { λ _. ⌜ now (store .exit) ≡ reserved 2 (now (store .entry)) ⌝ }
-    ensures room { λ _. ⌜ held (now (room .exit)) ≡ signed mix (valueOf (now (signer .entry) .seed)) (now (signer .entry) .levels) (next (now (store .entry))) (now (bits .entry)) ⌝ }
+    ensures room { λ _. ⌜ Made-in (signed mix (valueOf (now (signer .entry) .seed)) (now (signer .entry) .levels) (next (now (store .entry))) (now (bits .entry))) (now (room .entry)) (now (room .exit)) ⌝ }
 {
     reserve(store);
     sign_counted::<H>(signer, bits, store, room)

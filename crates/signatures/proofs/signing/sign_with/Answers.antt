@@ -24,7 +24,8 @@ returns g c =
     let index = c .key .ensures .index in
     let parts = rw (seed, index) at (c .reveal .ensures .parts) in
     let others = rw (seed, index) at (c .reveal .ensures .others) in
+    let rest = c .reveal .ensures .rest in
     record {
-      answer = made (levels-refusal l) (bits-refusal (length bs)) tt _ (c .in-rest .ensures tt) (c .in-rest-refuse-bits .ensures tt) (signed-flat h s l (c .args .key) (c .args .key) bs _ _ none parts others refl);
+      answer = made (levels-refusal l) (bits-refusal (length bs)) tt _ (c .in-rest .ensures tt) (c .in-rest-refuse-bits .ensures tt) (signed-flat h s l (c .args .key) (c .args .key) bs _ _ none parts others refl, rest .0, rest .1, refl);
       same = tt;
     }

@@ -41,7 +41,7 @@ returns g c =
     let done = c .sign-next .ensures .answer in
     let made = c .sign-next .ensures .room in
     let good : accepted h (node h (length bs) s l 0) l bs (held (c .sign-next .last .room)) ≡ true =
-    ap (λ (x : Signature). accepted h (node h (length bs) s l 0) l bs x) made ∙ own-accepted h s l (next m) bs (ltb-true (next m) (power l) left) in
+    ap (λ (x : Signature). accepted h (node h (length bs) s l 0) l bs x) (made .0) ∙ own-accepted h s l (next m) bs (ltb-true (next m) (power l) left) in
     record {
       answer = done ∙ answers-key l m (length bs) none left;
       store = c .sign-next .ensures .store ∙ stores-count l m (length bs) none left;
