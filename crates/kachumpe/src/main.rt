@@ -37,7 +37,9 @@ fn numbers_of(
     heap: Global,
     word: &[u8],
     line: &Option<Vec<u8>>,
-) -> Result<Option<Vec<Number>>, AllocError> {
+) -> Result<Option<Vec<Number>>, AllocError>
+    ensures { λ r. ⌜ made r (λ o. ByOption o (Unit {0}) (λ v. ByOption (now (line .entry)) ⊥ (λ l. vec-items l ≡ numbers-line (now (word .entry)) (vec-items v)))) ⌝ }
+{
     match line {
         Some(line) => read_numbers(heap, word, line),
         None => Ok(None),

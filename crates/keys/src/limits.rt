@@ -1,6 +1,5 @@
 // The signer's type: its seed, how many levels its tree has, and the limits.
 ghost use mathlib.Core.Path.{_≡_};
-ghost use Rattle.keys.specs.Limits.{max-levels, max-bits, built-levels};
 ghost use Rattle.keys.specs.Refusals.{levels-refusal, bits-refusal};
 use crate::one_time::OneTimeKey;
 use crate::refusal::Refusal;

@@ -1,20 +1,20 @@
 -- What is accepted is the signer's own, or a row that is looked at and one of the signer's own hash to the same.
 use mathlib.Core.Path.{_≡_, refl, sym, ap, _∙_}
 use mathlib.Core.Bool.{Bool, true, false}
-use mathlib.Core.List.{List, [], _∷_, _++_, map, List-discrete, head-eq-of-cons-eq, tail-eq-of-cons-eq, cons≢nil}
+use mathlib.Core.List.{List, [], _∷_, map, List-discrete, head-eq-of-cons-eq, tail-eq-of-cons-eq, cons≢nil}
 use mathlib.Core.Logic.{_⊎_, inl, inr}
-use Prim.Native.Nat.{ℕ, zero, suc, _+_, _*_, _/_, _<_}
+use Prim.Native.Nat.{ℕ, zero, suc, _+_, _/_, _<_}
 use native.Mathlib.Omega.{arith}
 use native.Mathlib.Decide.{ℕ-discrete}
 use lib.ListN.{length}
 use Rattle.hash.specs.Members.{In}
 use Rattle.hash.specs.Mix.{Mix}
 use Rattle.hash.proofs.Members.{in-left, in-right, in-map}
-use Rattle.keys.specs.Keys.{secret-row, shown-row, secret, shown, shown-all, leaf-row, leaf}
-use Rattle.tree.specs.Tree.{power, node-row, node, beside, path-from, fork, up}
+use Rattle.keys.specs.Keys.{shown-row, secret, shown, shown-all, leaf-row, leaf}
+use Rattle.tree.specs.Tree.{power, node, beside, path-from, fork, up}
 use Rattle.tree.proofs.Walks.{fork-own, fork-same, fork-tag}
-use Rattle.signatures.specs.Rows.{Own-row, own-secret, own-shown, own-leaf, own-node, walked-rows, looked-rows, Collision-of, Located-collision}
-use Rattle.signatures.specs.Signatures.{Signature, each-from, parts-from, others-from, signed, in-order, shown-of, leaf-row-of, accepted}
+use Rattle.signatures.specs.Rows.{Own-row, own-shown, own-leaf, own-node, walked-rows, looked-rows, Collision-of, Located-collision}
+use Rattle.signatures.specs.Signatures.{Signature, each-from, parts-from, others-from, signed, shown-of, leaf-row-of, accepted}
 use Rattle.signatures.proofs.Accepts.{tests}
 
 -- two rows that hash to the same are the same, or collide

@@ -1,9 +1,9 @@
 -- What each number of a signature of the signer's own is: a secret number, or the hash of a row of its tree that is not a secret number's.
-use mathlib.Core.Path.{_≡_, refl, sym, ap, _∙_}
-use mathlib.Core.Bool.{Bool, true, false, not}
-use mathlib.Core.List.{List, [], _∷_, _++_, head-eq-of-cons-eq}
+use mathlib.Core.Path.{_≡_, refl}
+use mathlib.Core.Bool.{Bool, false, not}
+use mathlib.Core.List.{List, _∷_, head-eq-of-cons-eq}
 use mathlib.Core.Logic.{_⊎_, inl, inr}
-use Prim.Native.Nat.{ℕ, zero, suc, _+_, _*_, _/_, _<_}
+use Prim.Native.Nat.{ℕ, zero, suc, _+_, _/_, _<_}
 use native.Mathlib.Nat.{zero-add}
 use native.Mathlib.Omega.{arith}
 use lib.ListN.{length, getD}
@@ -14,7 +14,7 @@ use Rattle.keys.specs.Keys.{secret, shown, leaf}
 use Rattle.tree.specs.Tree.{power, node, beside, path-from}
 use Rattle.tree.proofs.Walks.{beside-below}
 use Rattle.signatures.specs.Rows.{Own-row, own-shown, own-leaf, own-node}
-use Rattle.signatures.specs.Signatures.{Signature, numbers, parts-from, others-from, signed}
+use Rattle.signatures.specs.Signatures.{numbers, parts-from, others-from, signed}
 use Rattle.signatures.proofs.Each.{in-each}
 
 in-path : (h : Mix) (n s l d u x v : ℕ) → d + u ≡ l → x < power u → In v (path-from h n s d u x) →

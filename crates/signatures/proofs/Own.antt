@@ -1,13 +1,13 @@
 -- What the signer signs is accepted.
-use mathlib.Core.Path.{_≡_, refl, sym, ap, _∙_}
-use mathlib.Core.Bool.{Bool, true, false, not}
+use mathlib.Core.Path.{_≡_, refl, sym, _∙_}
+use mathlib.Core.Bool.{Bool, true, false}
 use mathlib.Core.List.{List, [], _∷_}
-use Prim.Native.Nat.{ℕ, zero, suc, _+_, _<_}
+use Prim.Native.Nat.{ℕ, suc, _<_}
 use native.Mathlib.Omega.{arith}
 use lib.ListN.{length}
 use Rattle.std.proofs.shelf.Tests.{eq-eqb, lt-ltb}
 use Rattle.hash.specs.Mix.{Mix}
-use Rattle.keys.specs.Keys.{secret, shown, shown-all, leaf}
+use Rattle.keys.specs.Keys.{shown, shown-all, leaf}
 use Rattle.tree.specs.Tree.{power, node, path-from, up}
 use Rattle.tree.proofs.Walks.{climbs, length-path}
 use Rattle.signatures.specs.Signatures.{each-from, parts-from, others-from, signed, shown-of, leaf-row-of, accepted}

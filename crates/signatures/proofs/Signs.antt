@@ -1,12 +1,12 @@
 -- A signature with no level, from its parts.
-use mathlib.Core.Path.{_≡_, refl, sym, ap, _∙_}
+use mathlib.Core.Path.{_≡_}
 use mathlib.Core.Bool.{Bool}
 use mathlib.Core.List.{List, []}
 use Prim.Native.Nat.{ℕ}
 use lib.ListN.{length}
 use Rattle.hash.specs.Mix.{Mix}
 use Rattle.tree.specs.Tree.{path-from}
-use Rattle.signatures.specs.Signatures.{Signature, parts-from, others-from, signed}
+use Rattle.signatures.specs.Signatures.{parts-from, others-from, signed}
 
 no-path : (h : Mix) (n s l i : ℕ) → l ≡ 0 → [] ≡ path-from h n s 0 l i
 unfolding path-from

@@ -2,7 +2,7 @@
 use mathlib.Core.Path.{_≡_}
 use mathlib.Core.Bool.{Bool}
 use mathlib.Core.List.{List, [], _∷_, _++_, map}
-use Prim.Native.Nat.{ℕ, zero, suc, _+_, _*_, _/_, _<_}
+use Prim.Native.Nat.{ℕ, suc, _+_, _*_, _/_, _<_}
 use Rattle.hash.specs.Members.{In}
 use Rattle.hash.specs.Mix.{Mix}
 use Rattle.keys.specs.Keys.{secret-row, shown-row, secret, leaf-row}

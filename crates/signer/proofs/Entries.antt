@@ -12,7 +12,7 @@ use Rattle.keys.specs.declared.refusal.Refusal.{Refusal}
 use Rattle.keys.proofs.Refused.{passed, neither}
 use Rattle.tree.specs.Tree.{power}
 use Rattle.signer.specs.Answers.{refusal, unrefused, unless-refused, answer, stored, key-refusal, store-refusal}
-use Rattle.signer.specs.Store.{next, sound, reserved, step, gives}
+use Rattle.signer.specs.Store.{next, sound, reserved, step}
 use Rattle.signer.specs.declared.answer.Done.{Done}
 use Rattle.signer.specs.declared.answer.Done.the-variants.{Key, Cut, Empty}
 

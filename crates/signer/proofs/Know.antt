@@ -1,9 +1,9 @@
 -- Who shows an accepted signature that was not given has a number that was not given.
 use mathlib.Core.Path.{_≡_, refl, sym, ap, subst, subst₂, _∙_}
 use mathlib.Core.Bool.{Bool, true, false}
-use mathlib.Core.List.{List, [], _∷_, _++_}
+use mathlib.Core.List.{List, [], _∷_}
 use mathlib.Core.Logic.{_⊎_, inl, inr}
-use Prim.Native.Nat.{ℕ, zero, suc, _+_, _≤_, _<_}
+use Prim.Native.Nat.{ℕ, suc, _≤_, _<_}
 use native.Mathlib.Nat.{zero-add}
 use native.Mathlib.Omega.{arith}
 use lib.ListN.{length, getD}
@@ -11,18 +11,17 @@ use Rattle.std.proofs.shelf.Tests.{cases-eq, true≢false, false≢true}
 use Rattle.hash.specs.Members.{In}
 use Rattle.hash.specs.Mix.{Mix}
 use Rattle.hash.proofs.Members.{in-getD, in-left, in-or-not, one-each, some-or-none}
-use Rattle.keys.specs.Keys.{bit, secret-row, secret}
+use Rattle.keys.specs.Keys.{bit, secret}
 use Rattle.tree.specs.Tree.{power, node}
 use Rattle.signatures.specs.Rows.{Own-row, own-secret, looked-rows, Collision-of}
-use Rattle.signatures.specs.Signatures.{Signature, numbers, each-from, parts-from, signed, accepted}
+use Rattle.signatures.specs.Signatures.{Signature, numbers, parts-from, signed, accepted}
 use Rattle.signatures.proofs.Accepts.{tests}
 use Rattle.signatures.proofs.Each.{each-at, length-each}
 use Rattle.signatures.proofs.Forgeries.{same-or, own-or-located}
 use Rattle.signatures.proofs.Numbers.{Other, number-of}
 use Rattle.signer.specs.OneTree.{Asked, key-given, given-number, Must-know}
 use Rattle.signer.specs.Promises.{Must-know-located}
-use Rattle.signer.specs.Runs.{Request, Gift, given, signature-given}
-use Rattle.signer.specs.Store.{sound}
+use Rattle.signer.specs.Runs.{Gift, given, signature-given}
 use Rattle.signer.proofs.OneTree.{gathered, gathered-rise, gathers, was-given}
 use Rattle.signer.proofs.Runs.{given-below, one-row}
 

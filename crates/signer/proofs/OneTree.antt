@@ -1,11 +1,11 @@
 -- Runs of requests to one tree, as runs that give keys.
 use mathlib.Core.Path.{_≡_, refl, sym, ap, subst, _∙_}
-use mathlib.Core.Bool.{Bool, true, false, _&&_, cond}
-use mathlib.Core.List.{List, [], _∷_, _++_, map}
+use mathlib.Core.Bool.{Bool, true, false, cond}
+use mathlib.Core.List.{List, [], _∷_, map}
 use mathlib.Core.Logic.{_⊎_, inl, inr}
-use Prim.Native.Nat.{ℕ, _+_, _≤_, _<_}
+use Prim.Native.Nat.{ℕ, _+_, _<_}
 use lib.Dec.{ltb}
-use Rattle.std.proofs.shelf.Tests.{and-parts, cases-bool, ltb-true, true≢false}
+use Rattle.std.proofs.shelf.Tests.{and-parts, ltb-true, true≢false}
 use Rattle.hash.specs.Members.{In, Rising}
 use Rattle.hash.proofs.Members.{in-append, in-left, in-right, one-each}
 use Rattle.tree.specs.Tree.{power}

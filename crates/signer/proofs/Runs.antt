@@ -1,6 +1,6 @@
 -- Runs of requests: the keys that are given rise.
 use mathlib.Core.Path.{_≡_, refl, sym, ap, subst, _∙_}
-use mathlib.Core.Bool.{Bool, true, false, _&&_, cond}
+use mathlib.Core.Bool.{Bool, true, false, cond}
 use mathlib.Core.List.{List, [], _∷_, _++_, map}
 use mathlib.Core.Logic.{_⊎_, inl, inr}
 use Prim.Native.Nat.{ℕ, _+_, _≤_, _<_}
@@ -17,10 +17,9 @@ use Rattle.keys.specs.declared.refusal.Refusal.{Refusal}
 use Rattle.keys.specs.declared.refusal.Refusal.the-variants.{Store}
 use Rattle.tree.specs.Tree.{power}
 use Rattle.signer.specs.Answers.{store-refusal, key-refusal, refusal, unrefused, unless-refused}
-use Rattle.signer.specs.OneTree.{Asked, sign, key-given, Never-twice}
 use Rattle.signer.specs.Promises.{Keys-rise, One-row}
 use Rattle.signer.specs.Runs.{Request, Gift, answered, after, gifts, given}
-use Rattle.signer.specs.Store.{next, sound, reserved, step, gives}
+use Rattle.signer.specs.Store.{next, sound, step, gives}
 use Rattle.signer.specs.declared.answer.Done.{Done}
 use Rattle.signer.specs.declared.answer.Done.the-variants.{Key, Cut, Empty}
 use Rattle.signer.proofs.Counting.{kept}

@@ -12,7 +12,7 @@ use Rattle.keys.specs.Refusals.{refusal-number, refusal-place, first, levels-re
 use Rattle.keys.specs.declared.refusal.Refusal.{Refusal}
 use Rattle.keys.specs.declared.refusal.Refusal.the-variants.{Store, NextKey}
 use Rattle.tree.specs.Tree.{power, node}
-use Rattle.signatures.specs.Signatures.{Signature, signed, accepted}
+use Rattle.signatures.specs.Signatures.{signed, accepted}
 use Rattle.signatures.specs.Views.{held, Made-in}
 use Rattle.signatures.specs.declared.room.SignatureRoom.{SignatureRoom}
 use Rattle.signer.specs.Store.{next, sound, step, gives}

@@ -1,15 +1,14 @@
 -- Decimals, one digit further, and what one bad digit or too large a number makes of the whole.
 use mathlib.Core.Path.{_≡_, refl, sym, ap, _∙_}
-use mathlib.Core.Bool.{Bool, true, false, _&&_, cond}
-use mathlib.Core.List.{List, [], _∷_, _++_, map}
+use mathlib.Core.Bool.{true, false, _&&_}
+use mathlib.Core.List.{List, [], _∷_, map}
 use mathlib.Core.Logic.{inl, inr}
 use Prim.Native.Nat.{ℕ, zero, suc, _+_, _-_, _*_, _≤_, _<_}
-use native.Mathlib.Numerals.{add-one}
 use native.Mathlib.Omega.{arith}
 use lib.Dec.{ltb}
 use lib.ListN.{length, getD, take, drop}
 use Rattle.std.specs.declared.option.Option.the-variants.{Some, None}
-use Rattle.std.specs.shelf.Digits.{number, numberAfter}
+use Rattle.std.specs.shelf.Digits.{number}
 use Rattle.std.proofs.shelf.Digits.{number-push, numberAfter-append, numberAfter-ge}
 use Rattle.std.proofs.shelf.Lists.{map-more, map-append, take-all, take-append-drop}
 use Rattle.std.proofs.shelf.Tests.{and-cases, and-from, and-parts, and-left, and-right, cond-true, cond-false, le-ltb, lt-ltb, ltb-false}

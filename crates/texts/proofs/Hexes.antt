@@ -4,8 +4,7 @@ use mathlib.Core.List.{List, [], _∷_, _++_}
 use Prim.Native.Nat.{ℕ, zero, suc, _+_, _*_, _/_, _%_, _<_}
 use native.Mathlib.Omega.{arith}
 use lib.ListN.{length, getD, take, set}
-use Rattle.std.specs.Joined.{joined}
-use Rattle.std.proofs.shelf.Lists.{append-assoc, length-append, take-more, take-more-set}
+use Rattle.std.proofs.shelf.Lists.{append-assoc, take-more, take-more-set}
 use Rattle.std.proofs.shelf.Ways.{tells}
 use Rattle.texts.specs.Spelling.{hex-digit, hex-byte, hex}
 

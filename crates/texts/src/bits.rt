@@ -1,6 +1,5 @@
 // A text's hash, and the bits of it that are signed.
 ghost use mathlib.Core.Path.{_≡_};
-ghost use mathlib.Core.List.{_∷_};
 ghost use Prim.Native.Nat.{min};
 ghost use Rattle.hash.specs.Value.{valueOf, first-bits};
 ghost use Rattle.std.specs.Of.Vec.{vec-items};

@@ -1,10 +1,9 @@
 // The lines that ask for something.
 ghost use mathlib.Core.Path.{_≡_};
-ghost use mathlib.Core.List.{List, map, _∷_, _++_};
+ghost use mathlib.Core.List.{List, _∷_, _++_};
 ghost use Prim.Native.Nat.{ℕ, _^_, _<_, _≤_};
 ghost use lib.Chars.{codes};
 ghost use lib.ListN.{length};
-ghost use Rattle.std.specs.Joined.{joined};
 ghost use Rattle.std.specs.Of.Vec.{vec-items};
 ghost use Rattle.std.specs.Options.{Cases};
 ghost use Rattle.std.specs.Vec.{made};

@@ -1,6 +1,6 @@
 -- One step of the walk, and its end.
 use native.Mathlib.Omega.{arith}
-use mathlib.Core.Path.{_≡_, sym, ap, _∙_}
+use mathlib.Core.Path.{sym, ap, _∙_}
 use Rattle.hash.specs.Value.{valueOf}
 use Rattle.hash.specs.declared.number.Number.{Number}
 use Rattle.tree.specs.Tree.{fork}

@@ -1,5 +1,5 @@
 -- A shift is a power.
-use mathlib.Core.Path.{_≡_, ap, sym, _∙_}
+use mathlib.Core.Path.{ap}
 use Prim.Native.Nat.{ℕ}
 use Rattle.std.proofs.shelf.Tests.{lt-ltb}
 use Rattle.std.specs.declared.option.Option.{Option}

@@ -1,6 +1,6 @@
 -- A tree of no level is its leaf.
 use mathlib.Core.Path.{_≡_, sym, ap, _∙_}
-use Prim.Native.Nat.{ℕ, _≤_}
+use Prim.Native.Nat.{ℕ}
 use native.Mathlib.Omega.{arith}
 use Rattle.hash.specs.Value.{valueOf}
 use Rattle.hash.specs.declared.number.Number.{Number}

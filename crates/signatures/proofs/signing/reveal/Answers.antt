@@ -1,9 +1,8 @@
 -- One bit more, in both rows.
-use mathlib.Core.Path.{_≡_, refl, sym, ap, _∙_}
-use mathlib.Core.Bool.{Bool, not}
-use Prim.Native.Nat.{ℕ}
+use mathlib.Core.Path.{_≡_, refl}
+use mathlib.Core.Bool.{not}
 use native.Mathlib.Omega.{arith}
-use lib.ListN.{length, take}
+use lib.ListN.{length}
 use Rattle.hash.specs.Value.{valueOf}
 use Rattle.hash.specs.declared.number.Number.{Number}
 use Rattle.keys.specs.Keys.{secret, shown}

@@ -1,14 +1,10 @@
 -- What is written is the signature.
-use mathlib.Core.Path.{_≡_, refl, sym, ap, _∙_}
-use mathlib.Core.List.{map}
-use Prim.Native.Nat.{ℕ, _≤_}
+use mathlib.Core.Path.{_≡_, refl}
 use native.Mathlib.Omega.{arith}
-use lib.ListN.{length, take}
+use lib.ListN.{length}
 use Rattle.hash.specs.Value.{valueOf}
-use Rattle.hash.specs.declared.number.Number.{Number}
 use Rattle.keys.specs.Refusals.{levels-refusal, bits-refusal}
 use Rattle.keys.proofs.Refused.{levels-taken, made}
-use Rattle.signatures.specs.Signatures.{parts-from, others-from}
 use Rattle.signatures.proofs.Signs.{signed-flat}
 use Rattle.signatures.proofs.signing.sign_with.Needs as need
 

@@ -1,13 +1,9 @@
 -- The loop takes in what the signature shows, bit by bit.
-use mathlib.Core.Path.{_≡_, ap, sym, _∙_}
-use mathlib.Core.Bool.{Bool}
-use mathlib.Core.List.{List, map}
 use native.Mathlib.Omega.{arith}
-use lib.ListN.{length, take}
 use Rattle.hash.specs.Value.{valueOf}
 use Rattle.hash.specs.declared.number.Number.{Number}
 use Rattle.std.proofs.shelf.Lists.{take-all}
-use Rattle.signatures.specs.Signatures.{shown-of, leaf-row-of}
+use Rattle.signatures.specs.Signatures.{shown-of}
 use Rattle.signatures.proofs.Leaves.{shown-more}
 use Rattle.signatures.proofs.verifying.leaf_of.Needs as need
 

@@ -1,9 +1,7 @@
 -- Each test as `accepted` has it.
-use mathlib.Core.Path.{_≡_, sym, ap, _∙_}
-use mathlib.Core.List.{map}
+use mathlib.Core.Path.{sym, ap, _∙_}
 use Prim.Native.Nat.{ℕ}
 use lib.Dec.{eqb}
-use lib.ListN.{length}
 use Rattle.hash.specs.Value.{valueOf}
 use Rattle.tree.specs.Tree.{up}
 use Rattle.std.proofs.shelf.Lists.{length-map}

@@ -1,6 +1,5 @@
 -- Every key is below 2^64, and so below a larger power.
 use mathlib.Core.Path.{sym}
-use Prim.Native.Nat.{_≤_}
 use native.Mathlib.Omega.{arith}
 use Rattle.std.proofs.shelf.Tests.{cond-true, le-leb}
 use Rattle.tree.specs.Tree.{power}

@@ -1,9 +1,9 @@
 -- One byte more, and all of them.
-use mathlib.Core.Path.{_≡_, ap, _∙_}
-use mathlib.Core.List.{List, [], _∷_, _++_}
+use mathlib.Core.Path.{ap, _∙_}
+use mathlib.Core.List.{List, _∷_}
 use Prim.Native.Nat.{ℕ}
 use native.Mathlib.Omega.{arith}
-use lib.ListN.{length, take, getD}
+use lib.ListN.{take}
 use Rattle.std.proofs.shelf.Lists.{take-more, take-all}
 use Rattle.texts.proofs.bits.digest.Needs as need
 

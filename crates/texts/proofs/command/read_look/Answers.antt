@@ -4,7 +4,6 @@ use mathlib.Core.List.{List, _++_}
 use Prim.Native.Nat.{ℕ, _-_}
 use native.Mathlib.Omega.{arith}
 use lib.Chars.{codes}
-use lib.ListN.{take}
 use Rattle.texts.specs.Spelling.{hex}
 use Rattle.texts.proofs.Lines.{cut-at}
 use Rattle.texts.proofs.command.read_look.Needs as need

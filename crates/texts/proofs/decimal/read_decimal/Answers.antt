@@ -1,11 +1,11 @@
 -- Each digit passes, or refuses the whole.
-use mathlib.Core.Path.{_≡_, sym, _∙_}
+use mathlib.Core.Path.{sym, _∙_}
 use mathlib.Core.Bool.{_&&_}
 use Prim.Native.Nat.{_+_, _-_, _*_, _^_, _<_}
 use native.Mathlib.Numerals.{add-one}
 use native.Mathlib.Omega.{arith}
 use lib.Dec.{ltb}
-use lib.ListN.{length, getD, take}
+use lib.ListN.{length, getD}
 use Rattle.std.proofs.shelf.Tests.{and-parts, eqb-false, ltb-true}
 use Rattle.texts.specs.Spelling.{is-digit}
 use Rattle.texts.proofs.Answered.{some-if, none-if}

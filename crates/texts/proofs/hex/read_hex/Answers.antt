@@ -1,10 +1,9 @@
 -- What is no digit in sixteens stands in no number, and two digits are a byte.
-use mathlib.Core.Path.{_≡_, sym, ap, _∙_}
+use mathlib.Core.Path.{sym, ap, _∙_}
 use mathlib.Core.List.{List}
-use Prim.Native.Nat.{ℕ, _+_, _*_, _/_, _%_, _<_, _≤_}
+use Prim.Native.Nat.{ℕ, _+_, _*_, _/_, _%_, _<_}
 use native.Mathlib.Omega.{arith}
-use lib.ListN.{length, getD, take}
-use Rattle.hash.specs.declared.number.Number.{Number}
+use lib.ListN.{length, getD}
 use Rattle.std.proofs.shelf.Lists.{length-set, take-all}
 use Rattle.texts.specs.Spelling.{hex}
 use Rattle.texts.proofs.Hexes.{length-hex, hex-high, hex-low, read-more}

@@ -1,9 +1,9 @@
 -- Too short, no space, no number; or the number that it begins with.
-use mathlib.Core.Path.{_≡_, sym, ap, _∙_}
-use mathlib.Core.List.{List, _∷_, _++_}
-use Prim.Native.Nat.{ℕ, _≤_}
+use mathlib.Core.Path.{ap}
+use mathlib.Core.List.{List}
+use Prim.Native.Nat.{ℕ}
 use native.Mathlib.Omega.{arith}
-use lib.ListN.{length, getD}
+use lib.ListN.{getD}
 use Rattle.std.proofs.shelf.Tests.{false≢true}
 use Rattle.texts.proofs.Lines.{number-long, number-at, number-back}
 use Rattle.texts.proofs.numbers.first_number.Needs as need

@@ -1,9 +1,8 @@
 -- A number is written by its meaning.
-use mathlib.Core.Path.{_≡_, sym, ap, _∙_}
+use mathlib.Core.Path.{sym, ap, _∙_}
 use mathlib.Core.List.{List, _++_}
 use Prim.Native.Nat.{ℕ}
 use Rattle.hash.proofs.Numbers.{bytes-back}
-use Rattle.keys.specs.declared.refusal.Refusal.{Refusal}
 use Rattle.texts.specs.Replies.{root-spelled}
 use Rattle.texts.specs.Spelling.{hex}
 use Rattle.texts.proofs.reply.root_text.Needs as need

@@ -1,6 +1,6 @@
 -- One number more: what is left of it counts as the number itself.
 use mathlib.Core.Path.{_≡_, sym, ap, _∙_}
-use Prim.Native.Nat.{ℕ, _+_, _*_, _%_}
+use Prim.Native.Nat.{_+_, _*_, _%_}
 use native.Mathlib.Nat.{add-mod-mod}
 use Rattle.hash.specs.Value.{worth, valueOf}
 use Rattle.hash.proofs.Runs.{run-push}

@@ -1,5 +1,5 @@
 -- The bits of the text are as many as were asked for, so the entry that signs answers for these.
-use mathlib.Core.Path.{_≡_, refl, sym, ap, subst, _∙_}
+use mathlib.Core.Path.{_≡_, refl, ap, subst, _∙_}
 use mathlib.Core.Bool.{Bool}
 use mathlib.Core.List.{List}
 use Prim.Native.Nat.{ℕ, min}
@@ -13,7 +13,7 @@ use Rattle.hash.specs.Value.{valueOf, bytes-of, bit-at}
 use Rattle.keys.proofs.Refused.{bits-taken}
 use Rattle.signer.specs.Answers.{refusal, answer, stored, Room-says, Given-accepted}
 use Rattle.signer.proofs.Entries.{taken}
-use Rattle.texts.specs.Bits.{text-row, bits-of-text}
+use Rattle.texts.specs.Bits.{text-row}
 use Rattle.texts.proofs.session.Session.sign.Needs as need
 
 same-at : {A : Type 0} (f : List ℕ → ℕ → A) {x m : List ℕ} {k n : ℕ} → x ≡ m → k ≡ n → f x k ≡ f m n
