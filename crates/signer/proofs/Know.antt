@@ -21,7 +21,7 @@ use Rattle.signatures.proofs.Forgeries.{same-or, own-or-located}
 use Rattle.signatures.proofs.Numbers.{Other, number-of}
 use Rattle.signer.specs.OneTree.{Asked, key-given, given-number, Must-know}
 use Rattle.signer.specs.Promises.{Must-know-located}
-use Rattle.signer.specs.Runs.{Gift, given, signature-given}
+use Rattle.signer.specs.Runs.{Issued, given, signature-given}
 use Rattle.signer.proofs.OneTree.{gathered, gathered-rise, gathers, was-given}
 use Rattle.signer.proofs.Runs.{given-below, one-row}
 
@@ -42,16 +42,16 @@ bit-same false true e = absurd (omega arith)
 bit-same false false e = refl
 
 -- all that was given, in whatever run: one row of bits for each key, all for one tree, and none of it for these bits by the key i
-pub record Gave (l n i : ℕ) (bs : List Bool) (gs : List Gift) : Type 0 where
-  pub one : (a b : Gift) → In a gs → In b gs → a .key ≡ b .key → a .request .bits ≡ b .request .bits
-  pub tree : (a : Gift) → In a gs → (a .request .levels ≡ l) × (length (a .request .bits) ≡ n) × (a .key < power l)
-  pub not : (a : Gift) → In a gs → a .key ≡ i → a .request .bits ≡ bs → ⊥
+pub record Gave (l n i : ℕ) (bs : List Bool) (gs : List Issued) : Type 0 where
+  pub one : (a b : Issued) → In a gs → In b gs → a .key ≡ b .key → a .request .bits ≡ b .request .bits
+  pub tree : (a : Issued) → In a gs → (a .request .levels ≡ l) × (length (a .request .bits) ≡ n) × (a .key < power l)
+  pub not : (a : Issued) → In a gs → a .key ≡ i → a .request .bits ≡ bs → ⊥
 
 -- a place where no row given for the key has the bit that is shown
-place : (l n i : ℕ) (bs : List Bool) (gs : List Gift) → 1 ≤ n → n ≡ length bs → Gave l n i bs gs →
-    (j : ℕ) × (j < n) × ((a : Gift) → In a gs → a .key ≡ i → getD bs j false ≡ getD (a .request .bits) j false → ⊥)
+place : (l n i : ℕ) (bs : List Bool) (gs : List Issued) → 1 ≤ n → n ≡ length bs → Gave l n i bs gs →
+    (j : ℕ) × (j < n) × ((a : Issued) → In a gs → a .key ≡ i → getD bs j false ≡ getD (a .request .bits) j false → ⊥)
 place l n i bs gs o e v =
-    elim (some-or-none (λ (a : Gift). a .key ≡ i) (λ a. cases-eq (a .key) i) gs) [
+    elim (some-or-none (λ (a : Issued). a .key ≡ i) (λ a. cases-eq (a .key) i) gs) [
       | inl f ↦
           let sized = v .tree (f .0) (f .1) .1 in
           let d = differ bs (f .0 .request .bits) (sym e ∙ sym sized) (λ z. v .not (f .0) (f .1) (f .2) (sym z)) in
@@ -77,9 +77,9 @@ module _ (h : Mix) (s l n : ℕ) (A : List ℕ → Type 0) where
   other-or i j t v a b e o = (o .0, _, inr (o .1), own-secret i j t a b, o .3 _, sym (o .2) ∙ e)
 
 -- the promise, over all that was given
-pub knows : (h : Mix) (s l n k : ℕ) (gs : List Gift) (bs : List Bool) (g : Signature) → 1 ≤ n → Gave l n (g .key) bs gs → accepted h (node h n s l 0) k bs g ≡ true →
+pub knows : (h : Mix) (s l n k : ℕ) (gs : List Issued) (bs : List Bool) (g : Signature) → 1 ≤ n → Gave l n (g .key) bs gs → accepted h (node h n s l 0) k bs g ≡ true →
     ((j : ℕ) × (j < n) × (getD (g .parts) j 0 ≡ secret h s (g .key) j (getD bs j false))
-    × ((a : Gift) → In a gs → In (getD (g .parts) j 0) (numbers (signature-given h s a)) → ⊥))
+    × ((a : Issued) → In a gs → In (getD (g .parts) j 0) (numbers (signature-given h s a)) → ⊥))
     ⊎ Collision-of h (λ r. In r (looked-rows h bs g) ⊎ Own-row h n s l r) (Own-row h n s l)
 unfolding signed
 knows h s l n k gs bs g o v acc =
@@ -91,7 +91,7 @@ knows h s l n k gs bs g o v acc =
           let own : number ≡ secret h s (g .key) j (getD bs j false) =
           ap (λ (y : Signature). getD (y .parts) j 0) (w .2) ∙ (rw zero-add at (each-at (secret h s (g .key)) 0 bs j (omega arith))) in
           let below : g .key < power l = rw (w .1) at (tests h (node h n s l 0) k bs g acc .0) in
-          elim (some-or-none (λ (a : Gift). In number (numbers (signature-given h s a))) (λ a. in-or-not number (numbers (signature-given h s a))) gs) [
+          elim (some-or-none (λ (a : Issued). In number (numbers (signature-given h s a))) (λ a. in-or-not number (numbers (signature-given h s a))) gs) [
             | inl r ↦
                 let a = r .0 in
                 let t = v .tree a (r .1) in
@@ -118,7 +118,7 @@ must-know-located h s l n k m qs bs g o all acc not-given =
 
 -- a secret number that was given stands in the signature that was given
 in-given : (h : Mix) (s l : ℕ) (m : List ℕ) (xs : List Asked) (v : ℕ) → given-number l h s m xs v →
-    (a : Gift) × In a (gathered l m xs) × In v (numbers (signature-given h s a))
+    (a : Issued) × In a (gathered l m xs) × In v (numbers (signature-given h s a))
 unfolding signed
 in-given h s l m xs v y =
     let a = gathers l m xs (y .0) (y .1) (y .4) in
@@ -133,7 +133,7 @@ pub must-know : Must-know
 must-know h s l n m xs bs g sd _ _ o e sized acc not-given =
     let gave : Gave l n (g .key) bs (gathered l m xs) =
     record {
-      one = λ a b i j f. ap (λ (x : Gift). x .request .bits) (one-each (λ (x : Gift). x .key) (gathered l m xs) a b (gathered-rise l m xs sd) i j f);
+      one = λ a b i j f. ap (λ (x : Issued). x .request .bits) (one-each (λ (x : Issued). x .key) (gathered l m xs) a b (gathered-rise l m xs sd) i j f);
       tree = λ a i. let w = was-given l m xs a i in (w .1, sized (a .key) (a .request .bits) (w .0), w .2);
       not = λ a i k f. not-given (subst₂ (λ (x : ℕ) (y : List Bool). key-given l m xs x y) k f (was-given l m xs a i .0));
     } in

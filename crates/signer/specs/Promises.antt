@@ -11,7 +11,7 @@ use Rattle.keys.specs.Keys.{secret}
 use Rattle.tree.specs.Tree.{power, node}
 use Rattle.signatures.specs.Signatures.{Signature, numbers, signed, accepted}
 use Rattle.signatures.specs.Rows.{Own-row, looked-rows, Collision-of, Located-collision}
-use Rattle.signer.specs.Runs.{Request, Gift, given, signature-given}
+use Rattle.signer.specs.Runs.{Request, Issued, given, signature-given}
 
 -- what the signer signs is accepted
 abbrev pub Own-accepted : Type 0
@@ -34,14 +34,14 @@ Keys-rise = (m : List ℕ) (qs : List Request) → Rising (map (λ a. a .key) (g
 
 -- so no key signs two rows of bits
 abbrev pub One-row : Type 0
-One-row = (m : List ℕ) (qs : List Request) (a b : Gift) → In a (given m qs) → In b (given m qs) → a .key ≡ b .key → a .request .bits ≡ b .request .bits
+One-row = (m : List ℕ) (qs : List Request) (a b : Issued) → In a (given m qs) → In b (given m qs) → a .key ≡ b .key → a .request .bits ≡ b .request .bits
 
 -- whoever shows an accepted signature that its key did not give has, in it, a secret number of the signer's that no signature given out in the run holds in any of its parts; or two rows hash to the same, one of the signer's own tree and one that looking hashes or that is the signer's too. The signer is one tree: all that it gave is for l levels and n bits
 abbrev pub Must-know-located : Type 0
 Must-know-located =
     (h : Mix) (s l n k : ℕ) (m : List ℕ) (qs : List Request) (bs : List Bool) (g : Signature) → 1 ≤ n →
-    ((a : Gift) → In a (given m qs) → (a .request .levels ≡ l) × (length (a .request .bits) ≡ n)) → accepted h (node h n s l 0) k bs g ≡ true →
-    ((a : Gift) → In a (given m qs) → a .key ≡ g .key → a .request .bits ≡ bs → ⊥) →
+    ((a : Issued) → In a (given m qs) → (a .request .levels ≡ l) × (length (a .request .bits) ≡ n)) → accepted h (node h n s l 0) k bs g ≡ true →
+    ((a : Issued) → In a (given m qs) → a .key ≡ g .key → a .request .bits ≡ bs → ⊥) →
     ((j : ℕ) × (j < n) × (getD (g .parts) j 0 ≡ secret h s (g .key) j (getD bs j false))
-    × ((a : Gift) → In a (given m qs) → In (getD (g .parts) j 0) (numbers (signature-given h s a)) → ⊥))
+    × ((a : Issued) → In a (given m qs) → In (getD (g .parts) j 0) (numbers (signature-given h s a)) → ⊥))
     ⊎ Collision-of h (λ r. In r (looked-rows h bs g) ⊎ Own-row h n s l r) (Own-row h n s l)

@@ -27,19 +27,19 @@ abbrev pub keys-in : Done → List ℕ
 keys-in d = cond (eqb (done-number d) 0) (done-values d) []
 
 -- a key that was given, and the request that it was given for
-pub record Gift : Type 0 where
+pub record Issued : Type 0 where
   pub key : ℕ
   pub request : Request
 
 -- what an answer gives for a request
-abbrev pub gifts : Request → Done → List Gift
-gifts q d = map (λ i. record { key = i; request = q }) (keys-in d)
+abbrev pub issued : Request → Done → List Issued
+issued q d = map (λ i. record { key = i; request = q }) (keys-in d)
 
 -- all that is given in a run from the store m, in order
-abbrev pub given : List ℕ → List Request → List Gift
+abbrev pub given : List ℕ → List Request → List Issued
 given m [] = []
-given m (q ∷ qs) = gifts q (answered m q) ++ given (after m q) qs
+given m (q ∷ qs) = issued q (answered m q) ++ given (after m q) qs
 
 -- the signature that a signer with the seed s gave with that key
-abbrev pub signature-given : Mix → (seed : ℕ) → Gift → Signature
+abbrev pub signature-given : Mix → (seed : ℕ) → Issued → Signature
 signature-given h s a = signed h s (a .request .levels) (a .key) (a .request .bits)
