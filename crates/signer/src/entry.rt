@@ -65,7 +65,7 @@ pub fn refused(levels: u64, store: &[u32], bits: u64) -> Option<Refusal>
     Signer::refuse_bits(bits)
 }
 
-// Signs with the key that was reserved last, which is read back from the store: the one below the count. So nothing of a signature exists before the count is written.
+// Signs with the key that was reserved last, which is read back from the store: the one below the count. Called before the count is written, it would sign with another key.
 fn sign_counted<H: RowHasher>(
     signer: &Signer,
     bits: &[bool],
