@@ -11,7 +11,8 @@ use std::io::BufRead;
 #[derive(Drop)]
 pub struct Input<R> {
     reader: R,
-    next: u64,
+    // the number of the line that is read next
+    pub next: u64,
 }
 
 impl<R: BufRead> Input<R> {
@@ -19,13 +20,6 @@ impl<R: BufRead> Input<R> {
         ensures { λ r. ⌜ r .next ≡ 0 ⌝ }
     {
         Input { reader, next: 0 }
-    }
-
-    // The number of the line that is read next.
-    pub fn next_number(&self) -> u64
-        ensures { λ r. ⌜ r ≡ now (self .entry) .next ⌝ }
-    {
-        self.next
     }
 
     // The next line, without its newline; none at the end. A line that is there is counted.

@@ -63,7 +63,7 @@ fn read_signature<R: BufRead>(
 ) -> Result<Result<ReadSignature, Refusal>, AnyError>
     ensures { λ r. ⌜ made r (λ s. ByResult s (λ _. Unit {0}) (λ e. refusal-number e ≡ 5)) ⌝ }
 {
-    let at = input.next_number();
+    let at = input.next;
     let first = input.line(heap)?;
     let second = input.line(heap)?;
     let third = input.line(heap)?;
@@ -135,7 +135,7 @@ fn run<R: BufRead>(rt: &LibcRuntime, input: &mut Input<R>) -> Result<(), AnyErro
     let heap = rt.alloc();
     let mut session = Session::new(heap);
     for _ in 0..u64::MAX {
-        let number = input.next_number();
+        let number = input.next;
         let Some(line) = input.line(heap)? else {
             return Ok(());
         };
