@@ -1,5 +1,7 @@
 -- The lemmas of this crate.
 mod Answered
+mod Commanded
+mod Cuts
 mod Decimals
 mod Hexes
 mod Lines

@@ -80,20 +80,15 @@ cut-at text word rest e f = sym (take-append-drop e text) ∙ ap (λ (r : List �
 abbrev pub Words-read : (List ℕ → Option ℕ) → (text left : List ℕ) → List ℕ → Type 0
 Words-read read text left vs = (ws : List (List ℕ)) × (text ≡ joined (λ w. 32 ∷ w) ws ++ left) × (map read ws ≡ map (λ v. Some v) vs)
 
-pub word-more : (read : List ℕ → Option ℕ) (text left : List ℕ) (vs us : List ℕ) (e v : ℕ) (w : List ℕ) → Words-read read text left vs → take (e - 0) left ≡ 32 ∷ w → read w ≡ Some v → us ≡ vs ++ (v ∷ []) →
-    Words-read read text (take (length left - e) (drop e left)) us
-word-more read text left vs us e v w r f g h =
-    let z : e - 0 ≡ e = omega arith in
-    let front : take e left ≡ 32 ∷ w = rw z at f in
-    let rest = drop e left in
-    let split : left ≡ (32 ∷ w) ++ rest = sym (take-append-drop e left) ∙ ap (λ (k : List ℕ). k ++ rest) front in
+pub word-more : (read : List ℕ → Option ℕ) (text left rest vs us : List ℕ) (v : ℕ) (w : List ℕ) → Words-read read text left vs → left ≡ 32 ∷ (w ++ rest) → read w ≡ Some v → us ≡ vs ++ (v ∷ []) →
+    Words-read read text rest us
+word-more read text left rest vs us v w r f g h =
     let words = joined (λ (x : List ℕ). 32 ∷ x) (r .0) in
-    let whole : text ≡ words ++ ((32 ∷ w) ++ rest) = r .1 ∙ ap (λ (k : List ℕ). words ++ k) split in
+    let whole : text ≡ words ++ ((32 ∷ w) ++ rest) = r .1 ∙ ap (λ (k : List ℕ). words ++ k) f in
     let join = sym (append-assoc words (32 ∷ w) rest) ∙ ap (λ (k : List ℕ). k ++ rest) (joined-more (λ (x : List ℕ). 32 ∷ x) [] (r .0) w) in
-    let back = ap (λ (k : List ℕ). joined (λ (x : List ℕ). 32 ∷ x) (r .0 ++ (w ∷ [])) ++ k) (sym (take-rest left e)) in
     let reads : map read (r .0 ++ (w ∷ [])) ≡ map (λ (x : ℕ). Some x) us =
     map-push read (r .0) w ∙ (ap (λ (k : List (Option ℕ)). k ++ (read w ∷ [])) (r .2) ∙ (ap (λ (o : Option ℕ). map (λ (x : ℕ). Some x) vs ++ (o ∷ [])) g ∙ sym (ap (λ (k : List ℕ). map (λ (x : ℕ). Some x) k) h ∙ map-push (λ (x : ℕ). Some x) vs v))) in
-    (r .0 ++ (w ∷ []), whole ∙ (join ∙ back), reads)
+    (r .0 ++ (w ∷ []), whole ∙ join, reads)
 
 pub words-all : (read : List ℕ → Option ℕ) (text left : List ℕ) (vs : List ℕ) → length left ≡ 0 → Words-read read text left vs →
     (ws : List (List ℕ)) × (text ≡ joined (λ w. 32 ∷ w) ws) × (map read ws ≡ map (λ v. Some v) vs)

@@ -1,8 +1,9 @@
 -- How the lines that ask for something are written. Assumes nothing: these are definitions.
 use mathlib.Core.Path.{_≡_}
 use mathlib.Core.List.{List, _∷_, _++_, map}
-use Prim.Native.Nat.{ℕ, _^_}
+use Prim.Native.Nat.{ℕ, _^_, _<_}
 use lib.Chars.{codes}
+use lib.ListN.{length, getD}
 use Rattle.std.specs.Joined.{joined}
 use Rattle.std.specs.Of.Vec.{vec-items}
 use Rattle.std.specs.declared.option.Option.{Option}
@@ -12,11 +13,19 @@ use Rattle.texts.specs.declared.command.Command.{Command}
 use Rattle.texts.specs.declared.command.Command.the-variants.{Store, Levels, Root, Sign, Look}
 use Rattle.texts.specs.declared.command.Levels.{Levels as LevelsAsked}
 
+-- a decimal below 2^64, a word, and the rest
+abbrev pub Decimal-before : (cs word : List ℕ) → ℕ → List ℕ → Type 0
+Decimal-before cs word v rest = (d : List ℕ) × (cs ≡ d ++ (word ++ rest)) × (decimal-of (2 ^ 64) d ≡ Some v)
+
 -- three decimals, with the words between them
 abbrev pub Levels-spelled : List ℕ → LevelsAsked → Type 0
 Levels-spelled cs v =
-    (x : List ℕ) × (y : List ℕ) × (z : List ℕ) × (cs ≡ x ++ (codes " bits " ++ (y ++ (codes " seed " ++ z))))
-    × (decimal-of (2 ^ 64) x ≡ Some (v .levels)) × (decimal-of (2 ^ 64) y ≡ Some (v .bits)) × (decimal-of (2 ^ 64) z ≡ Some (v .seed))
+    (x : List ℕ) × (y : List ℕ) × Decimal-before cs (codes " bits ") (v .levels) x × Decimal-before x (codes " seed ") (v .bits) y
+    × (decimal-of (2 ^ 64) y ≡ Some (v .seed))
+
+-- nothing, or what begins with a space: what stands behind a whole word
+abbrev pub Stops : List ℕ → Type 0
+Stops cs = 0 < length cs → getD cs 0 0 ≡ 32
 
 -- decimals below 2^32, each after one space
 abbrev pub Store-spelled : List ℕ → List ℕ → Type 0

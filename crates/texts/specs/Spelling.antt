@@ -1,14 +1,21 @@
 -- How numbers are written, by the codes of ASCII. Assumes nothing: these are definitions.
+use mathlib.Core.Path.{_≡_}
 use mathlib.Core.Bool.{Bool, true, _&&_, cond}
 use mathlib.Core.List.{List, [], _∷_, _++_, map}
-use Prim.Native.Nat.{ℕ, _+_, _-_, _/_, _%_}
+use Prim.Native.Nat.{ℕ, _+_, _-_, _/_, _%_, _≤_, _<_}
 use lib.Dec.{ltb, leb}
-use lib.ListN.{length}
+use lib.ListN.{length, getD}
 use Rattle.hash.specs.declared.number.Number.{Number}
 use Rattle.std.specs.Joined.{joined}
 use Rattle.std.specs.declared.option.Option.{Option}
 use Rattle.std.specs.declared.option.Option.the-variants.{Some, None}
 use Rattle.std.specs.shelf.Digits.{number}
+
+-- where the first word of a text ends: at the first space, or with the text
+pub record Word-end (cs : List ℕ) (r : ℕ) : Type 0 where
+  pub within : r ≤ length cs
+  pub before : (k : ℕ) → k < r → getD cs k 0 ≡ 32 → ⊥
+  pub found : r < length cs → getD cs r 0 ≡ 32
 
 -- a digit in sixteens: 0-9, a-f
 abbrev pub hex-digit : ℕ → ℕ

@@ -1,15 +1,18 @@
 // The lines that ask for something.
 ghost use mathlib.Core.Path.{_≡_};
 ghost use mathlib.Core.List.{List, _∷_, _++_};
-ghost use Prim.Native.Nat.{ℕ, _^_, _<_, _≤_};
+ghost use Prim.Native.Nat.{ℕ, _^_};
 ghost use lib.Chars.{codes};
-ghost use lib.ListN.{length};
+ghost use lib.ListN.{getD};
+ghost use Rattle.hash.specs.declared.number.Number.{Number};
 ghost use Rattle.std.specs.Of.Vec.{vec-items};
 ghost use Rattle.std.specs.Options.{Cases};
 ghost use Rattle.std.specs.Vec.{made};
 ghost use Rattle.std.specs.declared.option.Option.the-variants.{Some};
-ghost use Rattle.texts.specs.Commands.{Levels-spelled, Store-spelled, Spelled};
-ghost use Rattle.texts.specs.Spelling.{decimal-of};
+ghost use Rattle.texts.specs.Commands.{Decimal-before, Stops, Levels-spelled, Store-spelled, Spelled};
+ghost use Rattle.texts.specs.Spelling.{hex, decimal-of};
+ghost use Rattle.texts.specs.declared.command.Command.{Command};
+ghost use Rattle.texts.specs.declared.command.Levels.{Levels as LevelsAsked};
 use crate::decimal::read_decimal;
 use crate::hex::read_hex;
 use crate::words::after;
@@ -35,63 +38,67 @@ pub enum Command {
     Look(Number, Vec<u8>),
 }
 
-// What follows the word `levels` and a space.
-fn read_levels(text: &[u8]) -> Option<Levels>
-    ensures { λ r. ⌜ Cases r (Unit {0}) (λ v. Levels-spelled (now (text .entry)) v) ⌝ }
+// A decimal before a word that begins with a space, and what follows that word.
+fn decimal_before<'a>(text: &'a [u8], word: &[u8]) -> Option<(u64, &'a [u8])>
+    requires { ⌜ getD (now word) 0 0 ≡ 32 ⌝ }
+    ensures { λ r. ⌜ Cases r ((v : ℕ) (rest : List ℕ) → Decimal-before (now (text .entry)) (now (word .entry)) v rest → ⊥) (λ p. Decimal-before (now (text .entry)) (now (word .entry)) (p .0) (now (p .1))) ⌝ }
 {
     let end = word_end(text);
-    let levels = read_decimal(&text[0..end])?;
-    let text = after(&text[end..text.len()], b" bits ")?;
-    let end = word_end(text);
-    let bits = read_decimal(&text[0..end])?;
-    let text = after(&text[end..text.len()], b" seed ")?;
+    let value = read_decimal(&text[0..end])?;
+    let rest = after(&text[end..text.len()], word)?;
+    Some((value, rest))
+}
+
+// What follows the word `levels` and a space.
+fn read_levels(text: &[u8]) -> Option<Levels>
+    ensures { λ r. ⌜ Cases r ((v : LevelsAsked) → Levels-spelled (now (text .entry)) v → ⊥) (λ v. Levels-spelled (now (text .entry)) v) ⌝ }
+{
+    let (levels, text) = decimal_before(text, b" bits ")?;
+    let (bits, text) = decimal_before(text, b" seed ")?;
     let seed = read_decimal(text)?;
     Some(Levels { levels, bits, seed })
 }
 
-// The next word of a text that begins with a space, and the place after it.
-fn next_word(text: &[u8]) -> usize
-    ensures within { λ r. ⌜ r ≤ length (now (text .entry)) ⌝ }
-    ensures some { λ r. ⌜ (0 < length (now (text .entry)) → 0 < r) ⌝ }
-{
-    if text.is_empty() {
-        return 0;
-    }
-    1 + word_end(&text[1..text.len()])
-}
-
-// A decimal below 2^32 after one space.
+// A decimal below 2^32.
 fn read_count(word: &[u8]) -> Option<u32>
-    ensures { λ r. ⌜ Cases r (Unit {0}) (λ v. (w : List ℕ) × (now (word .entry) ≡ 32 ∷ w) × (decimal-of (2 ^ 32) w ≡ Some v)) ⌝ }
+    ensures { λ r. ⌜ r ≡ decimal-of (2 ^ 32) (now (word .entry)) ⌝ }
 {
-    let digits = after(word, b" ")?;
-    let value = read_decimal(digits)?;
+    let value = read_decimal(word)?;
     if value > u64::from(u32::MAX) {
         return None;
     }
     Some(value as u32)
 }
 
+// The count that a text begins with, after one space, and what follows it: nothing, or what begins with a space.
+fn first_count<'a>(text: &'a [u8]) -> Option<(u32, &'a [u8])>
+    ensures { λ r. ⌜ Cases r ((w : List ℕ) (v : ℕ) (rest : List ℕ) → Stops rest → now (text .entry) ≡ 32 ∷ (w ++ rest) → decimal-of (2 ^ 32) w ≡ Some v → ⊥) (λ p. (w : List ℕ) × Stops (now (p .1)) × (now (text .entry) ≡ 32 ∷ (w ++ now (p .1))) × (decimal-of (2 ^ 32) w ≡ Some (p .0))) ⌝ }
+{
+    let text = after(text, b" ")?;
+    let end = word_end(text);
+    let count = read_count(&text[0..end])?;
+    Some((count, &text[end..text.len()]))
+}
+
 // What follows the word `store`: decimals, each after one space.
 fn read_store(heap: Global, text: &[u8]) -> Result<Option<Vec<u32>>, AllocError>
-    ensures { λ r. ⌜ made r (λ o. Cases o (Unit {0}) (λ v. Store-spelled (now (text .entry)) (vec-items v))) ⌝ }
+    ensures { λ r. ⌜ made r (λ o. Cases o ((vs : List ℕ) → Store-spelled (now (text .entry)) vs → ⊥) (λ v. Store-spelled (now (text .entry)) (vec-items v))) ⌝ }
 {
     let mut left = text;
     let mut numbers = Vec::new(heap);
     while !left.is_empty() {
-        let end = next_word(left);
-        let Some(number) = read_count(&left[0..end]) else {
+        let Some((number, rest)) = first_count(left) else {
             return Ok(None);
         };
         numbers.push(number)?;
-        left = &left[end..left.len()];
+        left = rest;
     }
     Ok(Some(numbers))
 }
 
 // What follows the word `look` and a space: a root in sixteens, a space and a text.
 fn read_look(heap: Global, text: &[u8]) -> Result<Option<Command>, AllocError>
-    ensures { λ r. ⌜ made r (λ o. Cases o (Unit {0}) (λ c. ((cs : List ℕ) → cs ≡ codes "look " ++ now (text .entry) → Spelled cs c))) ⌝ }
+    ensures { λ r. ⌜ made r (λ o. Cases o ((n : Number) (t : List ℕ) → now (text .entry) ≡ hex (n .bytes) ++ (codes " " ++ t) → ⊥) (λ c. ((cs : List ℕ) → cs ≡ codes "look " ++ now (text .entry) → Spelled cs c))) ⌝ }
 {
     let end = word_end(text);
     let Some(root) = read_hex(&text[0..end]) else {
@@ -105,7 +112,7 @@ fn read_look(heap: Global, text: &[u8]) -> Result<Option<Command>, AllocError>
 
 // The command that a line is, if it is one.
 pub fn read_command(heap: Global, line: &[u8]) -> Result<Option<Command>, AllocError>
-    ensures { λ r. ⌜ made r (λ o. Cases o (Unit {0}) (λ c. Spelled (now (line .entry)) c)) ⌝ }
+    ensures { λ r. ⌜ made r (λ o. Cases o ((c : Command) → Spelled (now (line .entry)) c → ⊥) (λ c. Spelled (now (line .entry)) c)) ⌝ }
 {
     if let Some(text) = after(line, b"sign ") {
         return Ok(Some(Command::Sign(Vec::from_slice(heap, text)?)));
@@ -114,20 +121,16 @@ pub fn read_command(heap: Global, line: &[u8]) -> Result<Option<Command>, AllocE
         return read_look(heap, text);
     }
     if let Some(text) = after(line, b"levels ") {
-        return Ok(
-            match read_levels(text) {
-                Some(levels) => Some(Command::Levels(levels)),
-                None => None,
-            },
-        );
+        let Some(levels) = read_levels(text) else {
+            return Ok(None);
+        };
+        return Ok(Some(Command::Levels(levels)));
     }
     if let Some(text) = after(line, b"store") {
-        return Ok(
-            match read_store(heap, text)? {
-                Some(numbers) => Some(Command::Store(numbers)),
-                None => None,
-            },
-        );
+        let Some(numbers) = read_store(heap, text)? else {
+            return Ok(None);
+        };
+        return Ok(Some(Command::Store(numbers)));
     }
     if let Some(text) = after(line, b"root") {
         if text.is_empty() {

@@ -1,9 +1,9 @@
 // The words of a line.
 ghost use mathlib.Core.Path.{_≡_};
 ghost use mathlib.Core.List.{List, _++_};
-ghost use Prim.Native.Nat.{ℕ, _<_, _≤_};
-ghost use lib.ListN.{length, getD};
+ghost use Prim.Native.Nat.{ℕ};
 ghost use Rattle.std.specs.Options.{Cases};
+ghost use Rattle.texts.specs.Spelling.{Word-end};
 
 // What follows a word that a line begins with.
 pub fn after<'a>(line: &'a [u8], word: &[u8]) -> Option<&'a [u8]>
@@ -23,9 +23,7 @@ pub fn after<'a>(line: &'a [u8], word: &[u8]) -> Option<&'a [u8]>
 
 // Where the first word ends: the place of the first space, or the line's length.
 pub fn word_end(line: &[u8]) -> usize
-    ensures within { λ r. ⌜ r ≤ length (now (line .entry)) ⌝ }
-    ensures before { λ r. ⌜ ((k : ℕ) → k < r → getD (now (line .entry)) k 0 ≡ 32 → ⊥) ⌝ }
-    ensures found { λ r. ⌜ (r < length (now (line .entry)) → getD (now (line .entry)) r 0 ≡ 32) ⌝ }
+    ensures { λ r. ⌜ Word-end (now (line .entry)) r ⌝ }
 {
     for (i, c) in line.iter().enumerate() {
         if *c == b' ' {
