@@ -1,7 +1,7 @@
--- What holds of every number: it is below 2^256, and its bytes are those of its meaning.
+-- What holds of every number: it is below 2^256, and its bytes are those of its meaning; and that any thirty-two bytes are those of a number.
 use mathlib.Core.Path.{_≡_, refl, sym, ap, _∙_}
 use mathlib.Core.List.{List, [], _∷_}
-use Prim.Native.Nat.{ℕ, suc, _+_, _*_, _/_, _%_, _^_, _<_}
+use Prim.Native.Nat.{ℕ, zero, suc, _+_, _*_, _/_, _%_, _^_, _<_}
 use native.Mathlib.Nat.{div-one, div-div-eq-div-mul, pow-suc}
 use native.Mathlib.Omega.{arith}
 use lib.ListN.{length, getD}
@@ -9,6 +9,7 @@ use Rattle.std.specs.shelf.Digits.{Under, numberAfter}
 use Rattle.std.proofs.shelf.Digits.{number-lt}
 use Rattle.hash.specs.Laws.{Bounded, Bytes-back}
 use Rattle.hash.specs.Value.{bytes-from, bytes-of}
+use Rattle.hash.specs.declared.number.Number.{Number}
 
 under-all : (bs : List ℕ) → ((i : ℕ) → getD bs i 0 < 256) → Under 256 bs
 under-all [] h = tt
@@ -38,3 +39,18 @@ digits-back m (x ∷ xs) u =
 pub bytes-back : Bytes-back
 unfolding bytes-of
 bytes-back n = rw (n .sized) at (digits-back 0 (n .bytes) (under-all (n .bytes) (n .digits)))
+
+length-bytes : (w v : ℕ) → length (bytes-from w v) ≡ w
+unfolding bytes-from
+length-bytes zero v = refl
+length-bytes (suc w) v = ap (λ (k : ℕ). suc k) (length-bytes w v)
+
+bytes-small : (w v i : ℕ) → getD (bytes-from w v) i 0 < 256
+unfolding bytes-from
+bytes-small zero v i = omega arith
+bytes-small (suc w) v zero = omega arith
+bytes-small (suc w) v (suc i) = bytes-small w v i
+
+pub with-bytes : (v : ℕ) → (n : Number) × (n .bytes ≡ bytes-of v)
+unfolding bytes-of
+with-bytes v = (record { bytes = bytes-from 32 v; sized = length-bytes 32 v; digits = bytes-small 32 v }, refl)

@@ -10,8 +10,8 @@ use Rattle.std.specs.declared.option.Option.the-variants.{Some}
 use Rattle.std.proofs.shelf.Lists.{append-assoc, append-nil, drop-at, length-append, joined-more, map-push, nil-from-length, take-append-drop, take-at, take-more, take-rest}
 use Rattle.hash.specs.Value.{valueOf, bytes-of}
 use Rattle.hash.specs.declared.number.Number.{Number}
-use Rattle.hash.proofs.Numbers.{bytes-back}
-use Rattle.texts.specs.Spelling.{hex, numbers-line}
+use Rattle.hash.proofs.Numbers.{bytes-back, with-bytes}
+use Rattle.texts.specs.Spelling.{hex}
 use Rattle.texts.proofs.Hexes.{length-hex}
 
 -- a number after one space
@@ -25,6 +25,19 @@ length-spaced n = omega (arith, length-hex (n .bytes), n .sized)
 pub by-values : (ns : List Number) → joined spaced ns ≡ joined (λ v. 32 ∷ hex (bytes-of v)) (map valueOf ns)
 by-values [] = refl
 by-values (n ∷ ns) = let b = bytes-back n in let r = by-values ns in cc
+
+-- and for every row of meanings there are numbers that have them
+pub numbered : (vs : List ℕ) → (ns : List Number) × (joined spaced ns ≡ joined (λ v. 32 ∷ hex (bytes-of v)) vs)
+numbered [] = ([], refl)
+numbered (v ∷ vs) =
+    let n = with-bytes v in
+    let r = numbered vs in
+    let one = n .1 in
+    let more = r .1 in (n .0 ∷ r .0, cc)
+
+-- a line of numbers by their bytes
+abbrev pub bytes-line : List ℕ → List Number → List ℕ
+bytes-line word ns = word ++ joined spaced ns
 
 -- one number more
 pub numbers-more : (out : List ℕ) (ns : List Number) (i : ℕ) (n : Number) → i < length ns → n ≡ getD ns i n →
@@ -53,19 +66,19 @@ number-back (c ∷ cs) n h s e =
     ap (λ (x : ℕ). x ∷ cs) s ∙ ap (λ (r : List ℕ). 32 ∷ r) all
 
 -- a line that is read number by number: at its start, one number further, and at its end
-pub none-read : (line word rest : List ℕ) (ns : List Number) → ns ≡ [] → line ≡ word ++ rest → line ≡ numbers-line word ns ++ rest
+pub none-read : (line word rest : List ℕ) (ns : List Number) → ns ≡ [] → line ≡ word ++ rest → line ≡ bytes-line word ns ++ rest
 none-read line word rest ns e f = rw e (f ∙ ap (λ (w : List ℕ). w ++ rest) (sym (append-nil word)))
 
-pub one-read : (line word left : List ℕ) (ns ms : List Number) (n : Number) → line ≡ numbers-line word ns ++ left → left ≡ 32 ∷ (hex (n .bytes) ++ drop 65 left) → ms ≡ ns ++ (n ∷ []) →
-    line ≡ numbers-line word ms ++ take (length left - 65) (drop 65 left)
+pub one-read : (line word left : List ℕ) (ns ms : List Number) (n : Number) → line ≡ bytes-line word ns ++ left → left ≡ 32 ∷ (hex (n .bytes) ++ drop 65 left) → ms ≡ ns ++ (n ∷ []) →
+    line ≡ bytes-line word ms ++ take (length left - 65) (drop 65 left)
 one-read line word left ns ms n e f m =
     let rest = drop 65 left in
-    let split : line ≡ numbers-line word ns ++ (spaced n ++ rest) = e ∙ ap (λ (r : List ℕ). numbers-line word ns ++ r) f in
-    let join = sym (append-assoc (numbers-line word ns) (spaced n) rest) ∙ ap (λ (w : List ℕ). w ++ rest) (joined-more spaced word ns n ∙ ap (λ (k : List Number). word ++ joined spaced k) (sym m)) in
-    split ∙ (join ∙ ap (λ (r : List ℕ). numbers-line word ms ++ r) (sym (take-rest left 65)))
+    let split : line ≡ bytes-line word ns ++ (spaced n ++ rest) = e ∙ ap (λ (r : List ℕ). bytes-line word ns ++ r) f in
+    let join = sym (append-assoc (bytes-line word ns) (spaced n) rest) ∙ ap (λ (w : List ℕ). w ++ rest) (joined-more spaced word ns n ∙ ap (λ (k : List Number). word ++ joined spaced k) (sym m)) in
+    split ∙ (join ∙ ap (λ (r : List ℕ). bytes-line word ms ++ r) (sym (take-rest left 65)))
 
-pub all-read : (line word left : List ℕ) (ns : List Number) → length left ≡ 0 → line ≡ numbers-line word ns ++ left → line ≡ numbers-line word ns
-all-read line word left ns z e = e ∙ (ap (λ (r : List ℕ). numbers-line word ns ++ r) (nil-from-length left z) ∙ append-nil (numbers-line word ns))
+pub all-read : (line word left : List ℕ) (ns : List Number) → length left ≡ 0 → line ≡ bytes-line word ns ++ left → line ≡ bytes-line word ns
+all-read line word left ns z e = e ∙ (ap (λ (r : List ℕ). bytes-line word ns ++ r) (nil-from-length left z) ∙ append-nil (bytes-line word ns))
 
 -- four texts, one after the other
 pub four-more : (o p q r s a b c d : List ℕ) → p ≡ o ++ a → q ≡ p ++ b → r ≡ q ++ c → s ≡ r ++ d → s ≡ o ++ (a ++ (b ++ (c ++ d)))

@@ -1,6 +1,6 @@
 -- What is printed. Assumes nothing: these are definitions.
 use mathlib.Core.Bool.{Bool, true, false}
-use mathlib.Core.List.{List, _∷_, _++_}
+use mathlib.Core.List.{List, _++_}
 use Prim.Native.Nat.{ℕ}
 use lib.Chars.{codes}
 use Rattle.hash.specs.Value.{bytes-of, valueOf}
@@ -10,20 +10,15 @@ use Rattle.keys.specs.declared.refusal.Refusal.{Refusal}
 use Rattle.signatures.specs.Signatures.{Signature}
 use Rattle.signer.specs.declared.answer.Done.{Done}
 use Rattle.signer.specs.declared.answer.Done.the-variants.{Key, Cut, Empty, Refused}
-use Rattle.std.specs.Joined.{joined}
 use Rattle.std.specs.Written.{decimal}
 use Rattle.std.specs.declared.result.Result.{Result}
 use Rattle.std.specs.declared.result.Result.the-variants.{Ok, Err}
-use Rattle.texts.specs.Spelling.{hex}
-
--- a word, and numbers in sixteens, each after one space
-abbrev pub numbers-text : List ℕ → List ℕ → List ℕ
-numbers-text word vs = word ++ joined (λ v. 32 ∷ hex (bytes-of v)) vs
+use Rattle.texts.specs.Spelling.{hex, numbers-line}
 
 -- the four lines of a signature, with a newline before each but the first
 abbrev pub signature-text : Signature → List ℕ
 signature-text g =
-    codes "key " ++ (decimal (g .key) ++ (numbers-text (codes "\nparts") (g .parts) ++ (numbers-text (codes "\nothers") (g .others) ++ numbers-text (codes "\npath") (g .path))))
+    codes "key " ++ (decimal (g .key) ++ (numbers-line (codes "\nparts") (g .parts) ++ (numbers-line (codes "\nothers") (g .others) ++ numbers-line (codes "\npath") (g .path))))
 
 -- a refusal: its number and its place
 abbrev pub refusal-spelled : Refusal → List ℕ

@@ -5,7 +5,7 @@ use mathlib.Core.List.{List, [], _∷_, _++_, map}
 use Prim.Native.Nat.{ℕ, _+_, _-_, _/_, _%_, _≤_, _<_}
 use lib.Dec.{ltb, leb}
 use lib.ListN.{length, getD}
-use Rattle.hash.specs.declared.number.Number.{Number}
+use Rattle.hash.specs.Value.{bytes-of}
 use Rattle.std.specs.Joined.{joined}
 use Rattle.std.specs.declared.option.Option.{Option}
 use Rattle.std.specs.declared.option.Option.the-variants.{Some, None}
@@ -30,8 +30,8 @@ abbrev pub hex : List ℕ → List ℕ
 hex bs = joined hex-byte bs
 
 -- a line of numbers: a word, and each number in sixteens after one space
-abbrev pub numbers-line : List ℕ → List Number → List ℕ
-numbers-line word ns = word ++ joined (λ n. 32 ∷ hex (n .bytes)) ns
+abbrev pub numbers-line : List ℕ → List ℕ → List ℕ
+numbers-line word vs = word ++ joined (λ v. 32 ∷ hex (bytes-of v)) vs
 
 -- one of 0-9, and a text of these alone
 abbrev pub is-digit : ℕ → Bool

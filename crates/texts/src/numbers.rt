@@ -1,9 +1,10 @@
 // A line of numbers: a word, and each number in sixteens after one space.
 ghost use mathlib.Core.Path.{_≡_};
-ghost use mathlib.Core.List.{List, _∷_, _++_};
+ghost use mathlib.Core.List.{List, _∷_, _++_, map};
 ghost use Prim.Native.Nat.{ℕ, _≤_};
 ghost use mathlib.Core.Bool.{true};
 ghost use lib.ListN.{length, drop};
+ghost use Rattle.hash.specs.Value.{valueOf};
 ghost use Rattle.hash.specs.declared.number.Number.{Number};
 ghost use Rattle.std.specs.Of.String.{string-bytes};
 ghost use Rattle.std.specs.Of.Vec.{vec-items};
@@ -18,7 +19,7 @@ use std::alloc::AllocError;
 use std::alloc::Global;
 
 pub fn push_numbers(out: &mut String, word: &str, numbers: &[Number]) -> Result<(), AllocError>
-    ensures { λ r. ⌜ made r (λ _. string-bytes (now (out .exit)) ≡ string-bytes (now (out .entry)) ++ numbers-line (now (word .entry)) (now (numbers .entry))) ⌝ }
+    ensures { λ r. ⌜ made r (λ _. string-bytes (now (out .exit)) ≡ string-bytes (now (out .entry)) ++ numbers-line (now (word .entry)) (map valueOf (now (numbers .entry)))) ⌝ }
 {
     out.push_str(word)?;
     for number in numbers {
@@ -49,7 +50,7 @@ pub fn read_numbers(
     word: &[u8],
     line: &[u8],
 ) -> Result<Option<Vec<Number>>, AllocError>
-    ensures { λ r. ⌜ made r (λ o. Cases o ((ns : List Number) → now (line .entry) ≡ numbers-line (now (word .entry)) ns → ⊥) (λ v. now (line .entry) ≡ numbers-line (now (word .entry)) (vec-items v))) ⌝ }
+    ensures { λ r. ⌜ made r (λ o. Cases o ((vs : List ℕ) → now (line .entry) ≡ numbers-line (now (word .entry)) vs → ⊥) (λ v. now (line .entry) ≡ numbers-line (now (word .entry)) (map valueOf (vec-items v)))) ⌝ }
 {
     let Some(rest) = after(line, word) else {
         return Ok(None);

@@ -8,7 +8,7 @@ use Rattle.std.specs.Joined.{joined}
 use Rattle.std.specs.Of.String.{string-bytes}
 use Rattle.std.proofs.shelf.Lists.{append-assoc, take-all}
 use Rattle.texts.specs.Spelling.{hex}
-use Rattle.texts.proofs.Lines.{spaced, numbers-more}
+use Rattle.texts.proofs.Lines.{by-values, spaced, numbers-more}
 use Rattle.texts.proofs.numbers.push_numbers.Needs as need
 
 pub loop-number-again : need.loop-number-again
@@ -26,4 +26,4 @@ returns c =
     let out = string-bytes (c .args .out .now) in
     let word = c .in-Continue-push-str .ensures tt .bytes in
     let all = take-all (c .loop-number .number-index) ns (omega arith) in
-    c .loop-number .inv ∙ (ap (λ (ms : List Number). string-bytes (c .push-str .last .self) ++ joined spaced ms) all ∙ (ap (λ (s : List ℕ). s ++ joined spaced ns) word ∙ append-assoc out (c .args .word .now) (joined spaced ns)))
+    c .loop-number .inv ∙ (ap (λ (ms : List Number). string-bytes (c .push-str .last .self) ++ joined spaced ms) all ∙ (ap (λ (s : List ℕ). s ++ joined spaced ns) word ∙ (append-assoc out (c .args .word .now) (joined spaced ns) ∙ ap (λ (t : List ℕ). out ++ (c .args .word .now ++ t)) (by-values ns))))

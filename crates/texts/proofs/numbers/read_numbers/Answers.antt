@@ -1,13 +1,16 @@
 -- Each number is one of the line's, until nothing is left.
-use mathlib.Core.Path.{sym, _∙_}
-use Prim.Native.Nat.{_<_}
+use mathlib.Core.Path.{sym, ap, _∙_}
+use mathlib.Core.List.{List, _∷_, _++_}
+use Prim.Native.Nat.{ℕ, _<_}
 use native.Mathlib.Omega.{arith}
 use lib.ListN.{length}
 use Rattle.std.specs.Joined.{joined}
 use Rattle.std.specs.Of.Vec.{vec-items}
 use Rattle.std.proofs.shelf.Lists.{append-cancel-left, take-rest}
 use Rattle.std.proofs.shelf.Tests.{eqb-false, eqb-true}
-use Rattle.texts.proofs.Lines.{spaced, first-of, none-read, one-read, all-read}
+use Rattle.hash.specs.Value.{bytes-of}
+use Rattle.texts.specs.Spelling.{hex}
+use Rattle.texts.proofs.Lines.{by-values, numbered, spaced, first-of, none-read, one-read, all-read}
 use Rattle.texts.proofs.numbers.read_numbers.Needs as need
 
 pub loop-left-holds : need.loop-left-holds
@@ -17,10 +20,14 @@ loop-left-holds c =
     let rest = c .in-Some .rest .now in
     (none-read line word rest (vec-items (c .new-numbers .result)) (c .new-numbers .ensures .items) (c .in-Some .ensures tt), λ ns e. (ns, append-cancel-left word rest (joined spaced ns) (sym (c .in-Some .ensures tt) ∙ e)))
 
+pub returns-in-rest : need.returns-in-rest
+returns-in-rest c vs e = c .in-rest .ensures tt (joined (λ (v : ℕ). 32 ∷ hex (bytes-of v)) vs) e
+
 pub returns-in-rest-first-number : need.returns-in-rest-first-number
-returns-in-rest-first-number c ns e =
+returns-in-rest-first-number c vs e =
     let left = c .loop-left .left .now in
-    let k = c .loop-left .inv .1 ns e in
+    let n = numbered vs in
+    let k = c .loop-left .inv .1 (n .0) (e ∙ ap (λ (t : List ℕ). c .args .word .now ++ t) (sym (n .1))) in
     let none = eqb-false _ _ (sym (c .is-empty .ensures) ∙ c .loop-left-test .taken) in
     let f = first-of left (k .0) (k .1) (omega arith) in c .in-rest-first-number .ensures tt .cases (f .0) (joined spaced (f .1)) (f .2)
 
@@ -35,4 +42,5 @@ loop-left-again c =
 
 pub returns : need.returns
 returns c =
-    all-read (c .args .line .now) (c .args .word .now) (c .loop-left .left .now) (vec-items (c .loop-left .numbers)) (eqb-true _ _ (sym (c .is-empty .ensures) ∙ c .loop-left-test .left)) (c .loop-left .inv .0)
+    let ns = vec-items (c .loop-left .numbers) in
+    all-read (c .args .line .now) (c .args .word .now) (c .loop-left .left .now) ns (eqb-true _ _ (sym (c .is-empty .ensures) ∙ c .loop-left-test .left)) (c .loop-left .inv .0) ∙ ap (λ (t : List ℕ). c .args .word .now ++ t) (by-values ns)

@@ -6,8 +6,8 @@ use lib.Chars.{codes}
 use Rattle.signatures.specs.Views.{viewed}
 use Rattle.std.specs.Of.String.{string-bytes}
 use Rattle.std.specs.Written.{decimal}
-use Rattle.texts.specs.Replies.{numbers-text}
-use Rattle.texts.proofs.Lines.{by-values, four-more}
+use Rattle.texts.specs.Spelling.{numbers-line}
+use Rattle.texts.proofs.Lines.{four-more}
 use Rattle.texts.proofs.signature.push_signature.Needs as need
 
 pub returns : need.returns
@@ -21,7 +21,7 @@ returns c =
     let r = string-bytes (c .push-numbers-2 .last .out) in
     let s = string-bytes (c .push-numbers-3 .last .out) in
     let first : p ≡ out ++ key = c .in-Continue-push-str .ensures tt .bytes ∙ ap (λ (t : List ℕ). out ++ t) (c .deref .ensures ∙ text) in
-    let parts : q ≡ p ++ numbers-text (codes "\nparts") (g .parts) = c .in-Continue-push-numbers .ensures tt ∙ ap (λ (t : List ℕ). p ++ (codes "\nparts" ++ t)) (by-values (c .args .signature .parts .now)) in
-    let others : r ≡ q ++ numbers-text (codes "\nothers") (g .others) = c .in-Continue-push-numbers-2 .ensures tt ∙ ap (λ (t : List ℕ). q ++ (codes "\nothers" ++ t)) (by-values (c .args .signature .others .now)) in
-    let path : s ≡ r ++ numbers-text (codes "\npath") (g .path) = c .in-Continue-push-numbers-3 .ensures tt ∙ ap (λ (t : List ℕ). r ++ (codes "\npath" ++ t)) (by-values (c .args .signature .path .now)) in
-    four-more out p q r s key (numbers-text (codes "\nparts") (g .parts)) (numbers-text (codes "\nothers") (g .others)) (numbers-text (codes "\npath") (g .path)) first parts others path
+    let parts : q ≡ p ++ numbers-line (codes "\nparts") (g .parts) = c .in-Continue-push-numbers .ensures tt in
+    let others : r ≡ q ++ numbers-line (codes "\nothers") (g .others) = c .in-Continue-push-numbers-2 .ensures tt in
+    let path : s ≡ r ++ numbers-line (codes "\npath") (g .path) = c .in-Continue-push-numbers-3 .ensures tt in
+    four-more out p q r s key (numbers-line (codes "\nparts") (g .parts)) (numbers-line (codes "\nothers") (g .others)) (numbers-line (codes "\npath") (g .path)) first parts others path
