@@ -5,13 +5,15 @@ use Prim.Native.Nat.{ℕ, _+_, _-_, _≤_, _<_}
 use native.Mathlib.Omega.{arith}
 use lib.ListN.{length, getD, take, drop}
 use Rattle.std.specs.Joined.{joined}
+use Rattle.std.specs.Options.{Cases}
 use Rattle.std.specs.declared.option.Option.{Option}
-use Rattle.std.specs.declared.option.Option.the-variants.{Some}
+use Rattle.std.specs.declared.option.Option.the-variants.{Some, None}
 use Rattle.std.proofs.shelf.Lists.{append-assoc, append-nil, drop-at, length-append, joined-more, map-push, nil-from-length, take-append-drop, take-at, take-more, take-rest}
+use Rattle.std.proofs.shelf.Results.{cases-at-none, cases-at-some}
 use Rattle.hash.specs.Value.{valueOf, bytes-of}
 use Rattle.hash.specs.declared.number.Number.{Number}
 use Rattle.hash.proofs.Numbers.{bytes-back, with-bytes}
-use Rattle.texts.specs.Spelling.{hex}
+use Rattle.texts.specs.Spelling.{hex, numbers-line}
 use Rattle.texts.proofs.Hexes.{length-hex}
 
 -- a number after one space
@@ -106,3 +108,12 @@ word-more read text left rest vs us v w r f g h =
 pub words-all : (read : List ℕ → Option ℕ) (text left : List ℕ) (vs : List ℕ) → length left ≡ 0 → Words-read read text left vs →
     (ws : List (List ℕ)) × (text ≡ joined (λ w. 32 ∷ w) ws) × (map read ws ≡ map (λ v. Some v) vs)
 words-all read text left vs z r = (r .0, r .1 ∙ (ap (λ (k : List ℕ). joined (λ (x : List ℕ). 32 ∷ x) (r .0) ++ k) (nil-from-length left z) ∙ append-nil _), r .2)
+
+-- what the answer of a reader of numbers says of the line behind it
+pub line-some : {A : Type 0} {o : Option A} (items : A → List ℕ) (word line cs : List ℕ) (x : A) → line ≡ cs → o ≡ Some x →
+    Cases o ((vs : List ℕ) → line ≡ numbers-line word vs → ⊥) (λ v. line ≡ numbers-line word (items v)) → (vs : List ℕ) × (cs ≡ numbers-line word vs)
+line-some items word line cs x d e f = (items x, sym d ∙ cases-at-some _ _ x e f)
+
+pub line-none : {A : Type 0} {o : Option A} (items : A → List ℕ) (word line cs : List ℕ) → line ≡ cs → o ≡ None →
+    Cases o ((vs : List ℕ) → line ≡ numbers-line word vs → ⊥) (λ v. line ≡ numbers-line word (items v)) → (vs : List ℕ) × (cs ≡ numbers-line word vs) → ⊥
+line-none items word line cs d e f r = cases-at-none _ _ e f (r .0) (d ∙ r .1)

@@ -2,4 +2,5 @@
 pub mod Bits
 pub mod Commands
 pub mod Replies
+pub mod SignatureLines
 pub mod Spelling

@@ -25,6 +25,7 @@ pub use reply::root_text;
 pub use reply::sign_text;
 pub use session::Session;
 pub use signature::ReadSignature;
+pub use signature::SignatureLines;
 pub use signature::push_signature;
 pub use signature::read_key;
 pub use words::after;
