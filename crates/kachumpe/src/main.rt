@@ -1,12 +1,7 @@
 // The program: it reads lines, asks the parts beneath, and prints what they answer.
 ghost use mathlib.Core.Path.{_≡_};
-ghost use Rattle.keys.specs.Refusals.{refusal-number};
-ghost use Rattle.std.specs.Of.Vec.{vec-items};
-ghost use Rattle.std.specs.Options.{Cases as ByOption};
-ghost use Rattle.std.specs.Results.{Cases as ByResult};
 ghost use Rattle.std.specs.Vec.{made};
-ghost use Rattle.std.specs.declared.option.Option.the-variants.{None};
-ghost use Rattle.texts.specs.Spelling.{numbers-line};
+ghost use Rattle.kachumpe.specs.Sessions.{Obeyed};
 
 mod input;
 
@@ -16,76 +11,36 @@ use hash::stand_in::StandInRowHasher;
 use input::Input;
 use keys::Refusal;
 use keys::Signer;
-use std::alloc::AllocError;
 use std::alloc::Global;
 use std::error::AnyError;
+use std::io;
 use std::io::BufRead;
 use std::io::BufReader;
 use texts::Command;
-use texts::ReadSignature;
 use texts::Session;
+use texts::SignatureLines;
 use texts::look_text;
 use texts::read_command;
-use texts::read_key;
-use texts::read_numbers;
 use texts::refusal_text;
 use texts::root_text;
 use texts::sign_text;
 
-// The numbers of a line, where there is one and it begins with the word.
-fn numbers_of(
-    heap: Global,
-    word: &[u8],
-    line: &Option<Vec<u8>>,
-) -> Result<Option<Vec<Number>>, AllocError>
-    ensures { λ r. ⌜ made r (λ o. ByOption o (Unit {0}) (λ v. ByOption (now (line .entry)) ⊥ (λ l. vec-items l ≡ numbers-line (now (word .entry)) (vec-items v)))) ⌝ }
+// The four lines that follow a `look`. All four are taken, and one that is not there is empty.
+fn take_lines<R: BufRead>(heap: Global, input: &mut Input<R>) -> io::Result<SignatureLines>
+    ensures { λ r. ⌜ made r (λ t. t .first ≡ now (input .entry) .next) ⌝ }
 {
-    match line {
-        Some(line) => read_numbers(heap, word, line),
-        None => Ok(None),
-    }
-}
-
-// The key of a line, where there is one.
-fn key_of(line: &Option<Vec<u8>>) -> Option<u64>
-    ensures { λ r. ⌜ (now (line .entry) ≡ None → r ≡ None) ⌝ }
-{
-    match line {
-        Some(line) => read_key(line),
-        None => None,
-    }
-}
-
-// The signature in the next four lines, or the refusal of the first of them that cannot be read. All four are taken.
-fn read_signature<R: BufRead>(
-    heap: Global,
-    input: &mut Input<R>,
-) -> Result<Result<ReadSignature, Refusal>, AnyError>
-    ensures { λ r. ⌜ made r (λ s. ByResult s (λ _. Unit {0}) (λ e. refusal-number e ≡ 5)) ⌝ }
-{
-    let at = input.next;
-    let first = input.line(heap)?;
-    let second = input.line(heap)?;
-    let third = input.line(heap)?;
-    let fourth = input.line(heap)?;
-    let Some(key) = key_of(&first) else {
-        return Ok(Err(Refusal::Line(at)));
-    };
-    let Some(parts) = numbers_of(heap, b"parts", &second)? else {
-        return Ok(Err(Refusal::Line(at.saturating_add(1))));
-    };
-    let Some(others) = numbers_of(heap, b"others", &third)? else {
-        return Ok(Err(Refusal::Line(at.saturating_add(2))));
-    };
-    let Some(path) = numbers_of(heap, b"path", &fourth)? else {
-        return Ok(Err(Refusal::Line(at.saturating_add(3))));
-    };
-    Ok(Ok(ReadSignature {
+    let first = input.next;
+    let key = input.line(heap)?.unwrap_or(Vec::new(heap));
+    let parts = input.line(heap)?.unwrap_or(Vec::new(heap));
+    let others = input.line(heap)?.unwrap_or(Vec::new(heap));
+    let path = input.line(heap)?.unwrap_or(Vec::new(heap));
+    Ok(SignatureLines {
+        first,
         key,
         parts,
         others,
         path,
-    }))
+    })
 }
 
 // Answers one command.
@@ -94,7 +49,9 @@ fn obey<R: BufRead>(
     session: &mut Session,
     input: &mut Input<R>,
     command: Command,
-) -> Result<(), AnyError> {
+) -> Result<(), AnyError>
+    ensures { λ r. ⌜ made r (λ _. Obeyed (now (session .entry)) command (now (session .exit))) ⌝ }
+{
     let heap = rt.alloc();
     match command {
         Command::Store(store) => session.store = store,
@@ -114,18 +71,21 @@ fn obey<R: BufRead>(
             let text = sign_text(heap, done, &session.room)?;
             println!(rt, "{text}")?;
         }
-        Command::Look(root, text) => match read_signature(heap, input)? {
-            Ok(signature) => {
-                let text = look_text(
-                    session.look::<StandIn>(heap, &root, &text, signature.view())?,
-                );
-                println!(rt, "{text}")?;
+        Command::Look(root, text) => {
+            let lines = take_lines(heap, input)?;
+            match lines.read(heap)? {
+                Ok(signature) => {
+                    let text = look_text(
+                        session.look::<StandIn>(heap, &root, &text, signature.view())?,
+                    );
+                    println!(rt, "{text}")?;
+                }
+                Err(refusal) => {
+                    let text = refusal_text(heap, refusal)?;
+                    println!(rt, "{text}")?;
+                }
             }
-            Err(refusal) => {
-                let text = refusal_text(heap, refusal)?;
-                println!(rt, "{text}")?;
-            }
-        },
+        }
     }
     Ok(())
 }
