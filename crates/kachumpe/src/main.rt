@@ -1,16 +1,14 @@
 // The program: it reads lines, asks the parts beneath, and prints what they answer.
 ghost use mathlib.Core.Path.{_≡_};
 ghost use Rattle.std.specs.Vec.{made};
-ghost use Rattle.kachumpe.specs.Sessions.{Obeyed};
+ghost use Rattle.texts.specs.Sessions.{Obeyed};
 
 mod input;
 
-use hash::Number;
 use hash::StandIn;
 use hash::stand_in::StandInRowHasher;
 use input::Input;
 use keys::Refusal;
-use keys::Signer;
 use std::alloc::Global;
 use std::error::AnyError;
 use std::io;
@@ -19,14 +17,11 @@ use std::io::BufReader;
 use texts::Command;
 use texts::Session;
 use texts::SignatureLines;
-use texts::look_text;
 use texts::read_command;
 use texts::refusal_text;
-use texts::root_text;
-use texts::sign_text;
 
-// The four lines that follow a `look`. All four are taken, and one that is not there is empty.
-fn take_lines<R: BufRead>(heap: Global, input: &mut Input<R>) -> io::Result<SignatureLines>
+// The next four lines. All four are taken, and one that is not there is empty.
+fn four_lines<R: BufRead>(heap: Global, input: &mut Input<R>) -> io::Result<SignatureLines>
     ensures { λ r. ⌜ made r (λ t. t .first ≡ now (input .entry) .next) ⌝ }
 {
     let first = input.next;
@@ -44,7 +39,7 @@ fn take_lines<R: BufRead>(heap: Global, input: &mut Input<R>) -> io::Result<Sign
 }
 
 // Answers one command.
-fn obey<R: BufRead>(
+fn answer<R: BufRead>(
     rt: &LibcRuntime,
     session: &mut Session,
     input: &mut Input<R>,
@@ -53,39 +48,12 @@ fn obey<R: BufRead>(
     ensures { λ r. ⌜ made r (λ _. Obeyed (now (session .entry)) command (now (session .exit))) ⌝ }
 {
     let heap = rt.alloc();
-    match command {
-        Command::Store(store) => session.store = store,
-        Command::Levels(asked) => {
-            session.signer = Signer {
-                levels: asked.levels,
-                seed: Number::from_u64(asked.seed),
-            };
-            session.bits = asked.bits;
-        }
-        Command::Root => {
-            let text = root_text(heap, session.root::<StandIn>())?;
-            println!(rt, "{text}")?;
-        }
-        Command::Sign(text) => {
-            let done = session.sign::<StandIn>(heap, &text)?;
-            let text = sign_text(heap, done, &session.room)?;
-            println!(rt, "{text}")?;
-        }
-        Command::Look(root, text) => {
-            let lines = take_lines(heap, input)?;
-            match lines.read(heap)? {
-                Ok(signature) => {
-                    let text = look_text(
-                        session.look::<StandIn>(heap, &root, &text, signature.view())?,
-                    );
-                    println!(rt, "{text}")?;
-                }
-                Err(refusal) => {
-                    let text = refusal_text(heap, refusal)?;
-                    println!(rt, "{text}")?;
-                }
-            }
-        }
+    let lines = match &command {
+        Command::Look(_, _) => four_lines(heap, input)?,
+        _ => SignatureLines::none(heap, input.next),
+    };
+    if let Some(text) = session.obey::<StandIn>(heap, command, &lines)? {
+        println!(rt, "{text}")?;
     }
     Ok(())
 }
@@ -100,7 +68,7 @@ fn run<R: BufRead>(rt: &LibcRuntime, input: &mut Input<R>) -> Result<(), AnyErro
             return Ok(());
         };
         match read_command(heap, &line)? {
-            Some(command) => obey(rt, &mut session, input, command)?,
+            Some(command) => answer(rt, &mut session, input, command)?,
             None => {
                 let text = refusal_text(heap, Refusal::Line(number))?;
                 println!(rt, "{text}")?;

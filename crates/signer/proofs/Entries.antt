@@ -5,14 +5,14 @@ use mathlib.Core.List.{List}
 use Prim.Native.Nat.{ℕ, _≤_}
 use lib.Dec.{ltb, leb}
 use Rattle.std.specs.declared.option.Option.{Option}
-use Rattle.std.specs.declared.option.Option.the-variants.{None}
+use Rattle.std.specs.declared.option.Option.the-variants.{Some, None}
 use Rattle.std.proofs.shelf.Tests.{cond-true, leb-true}
 use Rattle.keys.specs.Refusals.{levels-refusal, bits-refusal}
 use Rattle.keys.specs.declared.refusal.Refusal.{Refusal}
 use Rattle.keys.proofs.Refused.{passed, neither}
 use Rattle.tree.specs.Tree.{power}
 use Rattle.signer.specs.Answers.{refusal, unrefused, unless-refused, answer, stored, key-refusal, store-refusal}
-use Rattle.signer.specs.Store.{next, sound, reserved, step}
+use Rattle.signer.specs.Store.{next, sound, reserved, step, gives}
 use Rattle.signer.specs.declared.answer.Done.{Done}
 use Rattle.signer.specs.declared.answer.Done.the-variants.{Key, Cut, Empty}
 
@@ -31,6 +31,19 @@ two-writes false k e = let z : _≡_ {A = Bool} false true = e in cc
 
 pub answers-key : (l : ℕ) (m : List ℕ) (n : ℕ) → None ≡ refusal l m n → ltb (next m) (power l) ≡ true → Key (next m) ≡ answer l m n 2
 answers-key l m n e t = sym (two-writes (ltb (next m) (power l)) (next m) t) ∙ ap (λ (o : Option Refusal). unrefused l m 2 o) e
+
+-- a key that is answered is the next one
+given-next : (t u : Bool) (i k : ℕ) → Key i ≡ cond t (Key k) (cond u Cut Empty) → i ≡ k
+given-next true u i k e = cc
+given-next false true i k e = let z : _≡_ {A = Bool} true false = cc in cc
+given-next false false i k e = let z : _≡_ {A = Bool} true false = cc in cc
+
+unrefused-next : (l : ℕ) (m : List ℕ) (w i : ℕ) (o : Option Refusal) → Key i ≡ unrefused l m w o → i ≡ next m
+unrefused-next l m w i (Some r) e = let z : _≡_ {A = Bool} true false = cc in cc
+unrefused-next l m w i None e = given-next (gives l m w) (ltb (next m) (power l)) i (next m) e
+
+pub key-next : (l : ℕ) (m : List ℕ) (n w i : ℕ) → Key i ≡ answer l m n w → i ≡ next m
+key-next l m n w i e = unrefused-next l m w i (refusal l m n) e
 
 pub stores-count : (l : ℕ) (m : List ℕ) (n : ℕ) → None ≡ refusal l m n → ltb (next m) (power l) ≡ true → reserved 2 m ≡ stored l m n 2
 stores-count l m n e t =

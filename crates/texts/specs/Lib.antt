@@ -2,5 +2,6 @@
 pub mod Bits
 pub mod Commands
 pub mod Replies
+pub mod Sessions
 pub mod SignatureLines
 pub mod Spelling

@@ -12,11 +12,23 @@ ghost use Rattle.signatures.specs.Signatures.{accepted};
 ghost use Rattle.signatures.specs.Views.{viewed};
 ghost use Rattle.signer.specs.Answers.{answer, stored, Room-says, Given-accepted};
 ghost use Rattle.signer.specs.Promises.{Own};
+ghost use Rattle.std.specs.Of.String.{string-bytes};
 ghost use Rattle.std.specs.Of.Vec.{vec-items};
 ghost use Rattle.std.specs.Results.{Cases};
 ghost use Rattle.std.specs.Vec.{made};
+ghost use Rattle.std.specs.declared.result.Result.{Result};
+ghost use Rattle.keys.specs.declared.refusal.Refusal.{Refusal};
 ghost use Rattle.texts.specs.Bits.{bits-of-text};
+ghost use Rattle.texts.specs.Sessions.{look-answer, Obeyed, Answered};
+ghost use Rattle.texts.specs.SignatureLines.{Signature-read};
+ghost use Rattle.texts.specs.declared.signature.ReadSignature.{ReadSignature};
 use crate::bits::text_bits;
+use crate::command::Command;
+use crate::reply::look_text;
+use crate::reply::refusal_text;
+use crate::reply::root_text;
+use crate::reply::sign_text;
+use crate::signature::SignatureLines;
 use hash::Number;
 use hash::RowHasher;
 use keys::Refusal;
@@ -92,5 +104,56 @@ impl Session {
     {
         let bits = text_bits::<H>(heap, text, self.bits)?;
         Ok(look::<H>(root, self.signer.levels, &bits, signature))
+    }
+
+    // The text that answers a `look`, from the four lines behind it.
+    fn look_at<H: RowHasher>(
+        &self,
+        heap: Global,
+        root: &Number,
+        text: &[u8],
+        lines: &SignatureLines,
+    ) -> Result<String, AllocError>
+        ensures { λ r. ⌜ made r (λ s. (g : Result ReadSignature Refusal) × Signature-read (now (lines .entry)) g × (string-bytes s ≡ look-answer mix (now (self .entry)) (valueOf (now (root .entry))) (now (text .entry)) g)) ⌝ }
+    {
+        match lines.read(heap)? {
+            Ok(signature) => {
+                let accepted = self.look::<H>(heap, root, text, signature.view())?;
+                String::from_str(heap, look_text(accepted))
+            }
+            Err(refusal) => refusal_text(heap, refusal),
+        }
+    }
+
+    // Does what a command asks, and gives the text that answers it, if one does. The lines are those behind the command, which only a `look` takes.
+    pub fn obey<H: RowHasher>(
+        &mut self,
+        heap: Global,
+        command: Command,
+        lines: &SignatureLines,
+    ) -> Result<Option<String>, AllocError>
+        ensures session { λ r. ⌜ made r (λ _. Obeyed (now (self .entry)) command (now (self .exit))) ⌝ }
+        ensures text { λ r. ⌜ made r (λ o. Answered mix (now (self .entry)) command (now (lines .entry)) o) ⌝ }
+    {
+        match command {
+            Command::Store(store) => {
+                self.store = store;
+                Ok(None)
+            }
+            Command::Levels(asked) => {
+                self.signer = Signer {
+                    levels: asked.levels,
+                    seed: Number::from_u64(asked.seed),
+                };
+                self.bits = asked.bits;
+                Ok(None)
+            }
+            Command::Root => Ok(Some(root_text(heap, self.root::<H>())?)),
+            Command::Sign(text) => {
+                let done = self.sign::<H>(heap, &text)?;
+                Ok(Some(sign_text(heap, done, &self.room)?))
+            }
+            Command::Look(root, text) => { Ok(Some(self.look_at::<H>(heap, &root, &text, lines)?)) }
+        }
     }
 }

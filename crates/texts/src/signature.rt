@@ -1,10 +1,11 @@
 // The four lines of a signature.
 ghost use mathlib.Core.Path.{_≡_};
-ghost use mathlib.Core.List.{_++_};
+ghost use mathlib.Core.List.{[], _++_};
 ghost use Prim.Native.Nat.{ℕ, _+_, min};
 ghost use Rattle.keys.specs.declared.refusal.Refusal.the-variants.{Line};
 ghost use Rattle.signatures.specs.Views.{viewed};
 ghost use Rattle.std.specs.Of.String.{string-bytes};
+ghost use Rattle.std.specs.Of.Vec.{vec-items};
 ghost use Rattle.std.specs.Options.{Cases};
 ghost use Rattle.std.specs.Vec.{made};
 ghost use Rattle.texts.specs.Replies.{signature-text};
@@ -61,6 +62,20 @@ pub struct SignatureLines {
 }
 
 impl SignatureLines {
+    // No line, where the first would have that number.
+    pub fn none(heap: Global, first: u64) -> SignatureLines
+        ensures first { λ r. ⌜ r .first ≡ first ⌝ }
+        ensures empty { λ r. ⌜ (vec-items (r .key) ≡ []) × (vec-items (r .parts) ≡ []) × (vec-items (r .others) ≡ []) × (vec-items (r .path) ≡ []) ⌝ }
+    {
+        SignatureLines {
+            first,
+            key: Vec::new(heap),
+            parts: Vec::new(heap),
+            others: Vec::new(heap),
+            path: Vec::new(heap),
+        }
+    }
+
     // The refusal of the line that comes so many after the first.
     fn refusal(&self, after: u64) -> Refusal
         ensures { λ r. ⌜ r ≡ Line (min (now (self .entry) .first + after) 18446744073709551615) ⌝ }
