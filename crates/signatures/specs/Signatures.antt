@@ -15,6 +15,10 @@ pub record Signature : Type 0 where
   pub others : List ℕ
   pub path : List ℕ
 
+-- one with no numbers
+abbrev pub blank : Signature
+blank = record { key = 0; parts = []; others = []; path = [] }
+
 -- every number of a signature
 abbrev pub numbers : Signature → List ℕ
 numbers g = g .parts ++ (g .others ++ g .path)

@@ -8,8 +8,8 @@ ghost use Rattle.hash.specs.Value.{valueOf};
 ghost use Rattle.keys.specs.Refusals.{first, levels-refusal, bits-refusal, Unless};
 ghost use Rattle.tree.specs.Tree.{node};
 ghost use Rattle.signatures.specs.Rows.{Located-collision};
-ghost use Rattle.signatures.specs.Signatures.{accepted};
-ghost use Rattle.signatures.specs.Views.{viewed};
+ghost use Rattle.signatures.specs.Signatures.{blank, accepted};
+ghost use Rattle.signatures.specs.Views.{viewed, held};
 ghost use Rattle.signer.specs.Answers.{answer, stored, Room-says, Given-accepted};
 ghost use Rattle.signer.specs.Promises.{Own};
 ghost use Rattle.std.specs.Of.String.{string-bytes};
@@ -46,10 +46,10 @@ use tree::root;
 // What the next lines are asked with.
 #[derive(Drop)]
 pub struct Session {
-    pub signer: Signer,
-    pub bits: u64,
-    pub store: Vec<u32>,
-    pub room: SignatureRoom,
+    signer: Signer,
+    bits: u64,
+    store: Vec<u32>,
+    room: SignatureRoom,
 }
 
 impl Session {
@@ -57,6 +57,7 @@ impl Session {
     pub fn new(heap: Global) -> Session
         ensures store { λ r. ⌜ vec-items (r .store) ≡ [] ⌝ }
         ensures signer { λ r. ⌜ (r .signer .levels ≡ 0) × (r .bits ≡ 0) × (valueOf (r .signer .seed) ≡ 0) ⌝ }
+        ensures room { λ r. ⌜ held (r .room) ≡ blank ⌝ }
     {
         Session {
             signer: Signer {

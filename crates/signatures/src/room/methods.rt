@@ -1,8 +1,10 @@
 // A room with no signature in it, and a view of the one that it holds.
 ghost use mathlib.Core.Path.{_≡_};
-ghost use mathlib.Core.List.{[]};
-ghost use lib.ListN.{length};
+ghost use mathlib.Core.List.{map};
+ghost use lib.ListN.{replicate};
+ghost use Rattle.hash.specs.Value.{valueOf};
 ghost use Rattle.keys.specs.Limits.{max-levels, max-bits};
+ghost use Rattle.signatures.specs.Signatures.{blank};
 ghost use Rattle.signatures.specs.Views.{viewed, held};
 use super::SignatureRoom;
 use crate::view::SignatureView;
@@ -10,11 +12,11 @@ use hash::Number;
 use keys::Signer;
 
 impl SignatureRoom {
-    // Room with no number in use, for as many bits and levels as a signer may have.
+    // Room for as many bits and levels as a signer may have, with no number in use and each 0.
     pub fn new() -> SignatureRoom
-        ensures none { λ r. ⌜ held r ≡ record { key = 0; parts = []; others = []; path = [] } ⌝ }
-        ensures bits { λ r. ⌜ (length (r .parts) ≡ max-bits) × (length (r .others) ≡ max-bits) ⌝ }
-        ensures levels { λ r. ⌜ length (r .path) ≡ max-levels ⌝ }
+        ensures none { λ r. ⌜ held r ≡ blank ⌝ }
+        ensures bits { λ r. ⌜ (map valueOf (r .parts) ≡ replicate max-bits 0) × (map valueOf (r .others) ≡ replicate max-bits 0) ⌝ }
+        ensures levels { λ r. ⌜ map valueOf (r .path) ≡ replicate max-levels 0 ⌝ }
     {
         let zero = Number::from_u64(0);
         SignatureRoom {
