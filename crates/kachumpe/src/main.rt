@@ -1,6 +1,8 @@
 // The program: it reads lines, asks the parts beneath, and prints what they answer.
 ghost use mathlib.Core.Path.{_≡_};
+ghost use mathlib.Core.Bool.{false};
 ghost use Rattle.std.specs.Vec.{made};
+ghost use Rattle.texts.specs.Commands.{takes-lines};
 ghost use Rattle.texts.specs.Sessions.{Obeyed};
 
 mod input;
@@ -38,19 +40,21 @@ fn four_lines<R: BufRead>(heap: Global, input: &mut Input<R>) -> io::Result<Sign
     })
 }
 
-// Answers one command.
+// Answers one command. Where it takes no lines, none is read.
 fn answer<R: BufRead>(
     rt: &LibcRuntime,
     session: &mut Session,
     input: &mut Input<R>,
     command: Command,
 ) -> Result<(), AnyError>
-    ensures { λ r. ⌜ made r (λ _. Obeyed (now (session .entry)) command (now (session .exit))) ⌝ }
+    ensures session { λ r. ⌜ made r (λ _. Obeyed (now (session .entry)) command (now (session .exit))) ⌝ }
+    ensures lines { λ r. ⌜ made r (λ _. takes-lines command ≡ false → now (input .exit) .next ≡ now (input .entry) .next) ⌝ }
 {
     let heap = rt.alloc();
-    let lines = match &command {
-        Command::Look(_, _) => four_lines(heap, input)?,
-        _ => SignatureLines::none(heap, input.next),
+    let lines = if command.takes_lines() {
+        four_lines(heap, input)?
+    } else {
+        SignatureLines::none(heap, input.next)
     };
     if let Some(text) = session.obey::<StandIn>(heap, command, &lines)? {
         println!(rt, "{text}")?;

@@ -1,5 +1,6 @@
 -- How the lines that ask for something are written. Assumes nothing: these are definitions.
 use mathlib.Core.Path.{_≡_}
+use mathlib.Core.Bool.{Bool, true, false}
 use mathlib.Core.List.{List, _∷_, _++_, map}
 use Prim.Native.Nat.{ℕ, _^_, _<_}
 use lib.Chars.{codes}
@@ -30,6 +31,14 @@ Stops cs = 0 < length cs → getD cs 0 0 ≡ 32
 -- decimals below 2^32, each after one space
 abbrev pub Store-spelled : List ℕ → List ℕ → Type 0
 Store-spelled cs vs = (ws : List (List ℕ)) × (cs ≡ joined (λ w. 32 ∷ w) ws) × (map (decimal-of (2 ^ 32)) ws ≡ map (λ v. Some v) vs)
+
+-- the four lines behind a `look` belong to it
+abbrev pub takes-lines : Command → Bool
+takes-lines (Store v) = false
+takes-lines (Levels v) = false
+takes-lines Root = false
+takes-lines (Sign t) = false
+takes-lines (Look r t) = true
 
 -- a line is a command, written out
 abbrev pub Spelled : List ℕ → Command → Type 0

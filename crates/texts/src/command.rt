@@ -9,7 +9,7 @@ ghost use Rattle.std.specs.Of.Vec.{vec-items};
 ghost use Rattle.std.specs.Options.{Cases};
 ghost use Rattle.std.specs.Vec.{made};
 ghost use Rattle.std.specs.declared.option.Option.the-variants.{Some};
-ghost use Rattle.texts.specs.Commands.{Decimal-before, Stops, Levels-spelled, Store-spelled, Spelled};
+ghost use Rattle.texts.specs.Commands.{Decimal-before, Stops, Levels-spelled, Store-spelled, Spelled, takes-lines};
 ghost use Rattle.texts.specs.Spelling.{hex, decimal-of};
 ghost use Rattle.texts.specs.declared.command.Command.{Command};
 ghost use Rattle.texts.specs.declared.command.Levels.{Levels as LevelsAsked};
@@ -36,6 +36,18 @@ pub enum Command {
     Root,
     Sign(Vec<u8>),
     Look(Number, Vec<u8>),
+}
+
+impl Command {
+    // Whether the four lines behind it belong to it.
+    pub fn takes_lines(&self) -> bool
+        ensures { λ r. ⌜ r ≡ takes-lines (now (self .entry)) ⌝ }
+    {
+        match self {
+            Command::Look(_, _) => true,
+            _ => false,
+        }
+    }
 }
 
 // A decimal before a word that begins with a space, and what follows that word.
