@@ -33,7 +33,7 @@ pub hex-spaceless : (bs : List ℕ) → Spaceless (hex bs)
 hex-spaceless [] = tt
 hex-spaceless (b ∷ bs) = (digit-no-space (b / 16), (digit-no-space (b % 16), hex-spaceless bs))
 
--- the first word ends where no space follows it any more
+-- the end of the first word, of a text that is a word and what may stand behind one
 end-at : (w rest : List ℕ) (r : ℕ) → Spaceless w → Stops rest → Word-end (w ++ rest) r → r ≡ length w
 end-at [] [] zero f s at = refl
 end-at [] [] (suc r) f s at = absurd (omega (arith, at .within))
