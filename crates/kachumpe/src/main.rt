@@ -3,7 +3,7 @@ ghost use mathlib.Core.Path.{_≡_};
 ghost use mathlib.Core.Bool.{false};
 ghost use Rattle.std.specs.Vec.{made};
 ghost use Rattle.texts.specs.Commands.{takes-lines};
-ghost use Rattle.texts.specs.Sessions.{Obeyed};
+ghost use Rattle.texts.specs.Sessions.{Executed};
 
 mod input;
 
@@ -47,7 +47,7 @@ fn answer<R: BufRead>(
     input: &mut Input<R>,
     command: Command,
 ) -> Result<(), AnyError>
-    ensures session { λ r. ⌜ made r (λ _. Obeyed (now (session .entry)) command (now (session .exit))) ⌝ }
+    ensures session { λ r. ⌜ made r (λ _. Executed (now (session .entry)) command (now (session .exit))) ⌝ }
     ensures lines { λ r. ⌜ made r (λ _. takes-lines command ≡ false → now (input .exit) .next ≡ now (input .entry) .next) ⌝ }
 {
     let heap = rt.alloc();
@@ -56,7 +56,7 @@ fn answer<R: BufRead>(
     } else {
         SignatureLines::none(heap, input.next)
     };
-    if let Some(text) = session.obey::<StandIn>(heap, command, &lines)? {
+    if let Some(text) = session.execute::<StandIn>(heap, command, &lines)? {
         println!(rt, "{text}")?;
     }
     Ok(())

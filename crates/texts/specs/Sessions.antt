@@ -22,7 +22,7 @@ use Rattle.std.specs.declared.alloc.Global.{Global}
 use Rattle.std.specs.declared.string.String.{String}
 use Rattle.texts.specs.Bits.{bits-of-text}
 use Rattle.texts.specs.Replies.{refusal-spelled, sign-spelled, look-spelled}
-use Rattle.texts.specs.SignatureLines.{has, Signature-read}
+use Rattle.texts.specs.SignatureLines.{signature-of, Signature-read}
 use Rattle.texts.specs.Spelling.{hex}
 use Rattle.texts.specs.declared.command.Command.{Command}
 use Rattle.texts.specs.declared.command.Command.the-variants.{Store, Levels, Root, Sign, Look}
@@ -31,29 +31,31 @@ use Rattle.texts.specs.declared.signature.ReadSignature.{ReadSignature}
 use Rattle.texts.specs.declared.signature.SignatureLines.{SignatureLines}
 
 -- the signer and the number of bits are as they were
-abbrev pub Same-asked : (before after : Session) → Type 0
-Same-asked s s₁ = (s₁ .signer ≡ s .signer) × (s₁ .bits ≡ s .bits)
+abbrev pub Same-settings : (before after : Session) → Type 0
+Same-settings s s₁ = (s₁ .signer ≡ s .signer) × (s₁ .bits ≡ s .bits)
 
-abbrev pub Obeyed : Session → Command → Session → Type 0
-Obeyed s (Store v) s₁ = (vec-items (s₁ .store) ≡ vec-items v) × Same-asked s s₁
-Obeyed s (Levels a) s₁ =
+-- what a command leaves of a session
+abbrev pub Executed : Session → Command → Session → Type 0
+Executed s (Store v) s₁ = (vec-items (s₁ .store) ≡ vec-items v) × Same-settings s s₁
+Executed s (Levels a) s₁ =
     (s₁ .signer .levels ≡ a .levels) × (valueOf (s₁ .signer .seed) ≡ a .seed) × (s₁ .bits ≡ a .bits) × (vec-items (s₁ .store) ≡ vec-items (s .store))
-Obeyed s Root s₁ = (vec-items (s₁ .store) ≡ vec-items (s .store)) × Same-asked s s₁
-Obeyed s (Sign t) s₁ = (vec-items (s₁ .store) ≡ stored (s .signer .levels) (vec-items (s .store)) (s .bits) 2) × Same-asked s s₁
-Obeyed s (Look r t) s₁ = (vec-items (s₁ .store) ≡ vec-items (s .store)) × Same-asked s s₁
+Executed s Root s₁ = (vec-items (s₁ .store) ≡ vec-items (s .store)) × Same-settings s s₁
+Executed s (Sign t) s₁ = (vec-items (s₁ .store) ≡ stored (s .signer .levels) (vec-items (s .store)) (s .bits) 2) × Same-settings s s₁
+Executed s (Look r t) s₁ = (vec-items (s₁ .store) ≡ vec-items (s .store)) × Same-settings s s₁
 
 -- the bits of a text that the session's keys sign
 abbrev pub bits-asked : Mix → Session → (text : List ℕ) → List Bool
 bits-asked h s t = bits-of-text h t (s .bits)
 
--- the answer to `root`
-abbrev pub unless-told : Option Refusal → List ℕ → List ℕ
-unless-told (Some r) cs = refusal-spelled r
-unless-told None cs = cs
+-- a refusal, or else that text
+abbrev pub refusal-or : Option Refusal → List ℕ → List ℕ
+refusal-or (Some r) cs = refusal-spelled r
+refusal-or None cs = cs
 
+-- the answer to `root`
 abbrev pub root-answer : Mix → Session → List ℕ
 root-answer h s =
-    unless-told (first (levels-refusal (s .signer .levels)) (bits-refusal (s .bits))) (hex (bytes-of (node h (s .bits) (valueOf (s .signer .seed)) (s .signer .levels) 0)))
+    refusal-or (first (levels-refusal (s .signer .levels)) (bits-refusal (s .bits))) (hex (bytes-of (node h (s .bits) (valueOf (s .signer .seed)) (s .signer .levels) 0)))
 
 -- the answer to `sign`: the signature is by the next key
 abbrev pub sign-answer : Mix → Session → (text : List ℕ) → List ℕ
@@ -63,13 +65,14 @@ sign-answer h s t =
 
 -- the answer to `look`, by what was read of the lines behind it
 abbrev pub look-answer : Mix → Session → (root : ℕ) → (text : List ℕ) → Result ReadSignature Refusal → List ℕ
-look-answer h s r t (Ok g) = look-spelled (accepted h r (s .signer .levels) (bits-asked h s t) (has g))
+look-answer h s r t (Ok g) = look-spelled (accepted h r (s .signer .levels) (bits-asked h s t) (signature-of g))
 look-answer h s r t (Err e) = refusal-spelled e
 
 -- a text is given, and it is this one
 abbrev pub Says : Option (String Global) → List ℕ → Type 0
 Says o cs = Cases o ⊥ (λ s. string-bytes s ≡ cs)
 
+-- what a command is answered, given the lines behind it: nothing to `store` and `levels`
 abbrev pub Answered : Mix → Session → Command → SignatureLines → Option (String Global) → Type 0
 Answered h s (Store v) t o = o ≡ None
 Answered h s (Levels a) t o = o ≡ None

@@ -17,8 +17,8 @@ use Rattle.texts.specs.declared.signature.ReadSignature.{ReadSignature}
 use Rattle.texts.specs.declared.signature.SignatureLines.{SignatureLines}
 
 -- the signature that was read
-abbrev pub has : ReadSignature → Signature
-has s =
+abbrev pub signature-of : ReadSignature → Signature
+signature-of s =
     record {
       key = s .key;
       parts = map valueOf (vec-items (s .parts));
@@ -47,6 +47,6 @@ Readable t (suc (suc (suc k))) = (vs : List ℕ) × (vec-items (t .path) ≡ num
 
 -- the signature, or the refusal of the first line that cannot be read, by its number
 abbrev pub Signature-read : SignatureLines → Result ReadSignature Refusal → Type 0
-Signature-read t (Ok s) = Lines-of (has s) t
+Signature-read t (Ok s) = Lines-of (signature-of s) t
 Signature-read t (Err r) =
     (k : ℕ) × (k < 4) × ((j : ℕ) → j < k → Readable t j) × (Readable t k → ⊥) × (r ≡ Line (min (t .first + k) 18446744073709551615))

@@ -19,7 +19,7 @@ ghost use Rattle.std.specs.Vec.{made};
 ghost use Rattle.std.specs.declared.result.Result.{Result};
 ghost use Rattle.keys.specs.declared.refusal.Refusal.{Refusal};
 ghost use Rattle.texts.specs.Bits.{bits-of-text};
-ghost use Rattle.texts.specs.Sessions.{look-answer, Obeyed, Answered};
+ghost use Rattle.texts.specs.Sessions.{look-answer, Executed, Answered};
 ghost use Rattle.texts.specs.SignatureLines.{Signature-read};
 ghost use Rattle.texts.specs.declared.signature.ReadSignature.{ReadSignature};
 use crate::bits::text_bits;
@@ -127,13 +127,13 @@ impl Session {
     }
 
     // Does what a command asks, and gives the text that answers it, if one does. The lines are those behind the command, which only a `look` takes.
-    pub fn obey<H: RowHasher>(
+    pub fn execute<H: RowHasher>(
         &mut self,
         heap: Global,
         command: Command,
         lines: &SignatureLines,
     ) -> Result<Option<String>, AllocError>
-        ensures session { λ r. ⌜ made r (λ _. Obeyed (now (self .entry)) command (now (self .exit))) ⌝ }
+        ensures session { λ r. ⌜ made r (λ _. Executed (now (self .entry)) command (now (self .exit))) ⌝ }
         ensures text { λ r. ⌜ made r (λ o. Answered mix (now (self .entry)) command (now (lines .entry)) o) ⌝ }
     {
         match command {

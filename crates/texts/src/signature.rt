@@ -9,7 +9,7 @@ ghost use Rattle.std.specs.Of.Vec.{vec-items};
 ghost use Rattle.std.specs.Options.{Cases};
 ghost use Rattle.std.specs.Vec.{made};
 ghost use Rattle.texts.specs.Replies.{signature-text};
-ghost use Rattle.texts.specs.SignatureLines.{has, Key-spelled, Signature-read};
+ghost use Rattle.texts.specs.SignatureLines.{signature-of, Key-spelled, Signature-read};
 use crate::decimal::read_decimal;
 use crate::numbers::push_numbers;
 use crate::numbers::read_numbers;
@@ -31,7 +31,7 @@ pub struct ReadSignature {
 
 impl ReadSignature {
     pub fn view<'a>(&'a self) -> SignatureView<'a>
-        ensures { λ r. ⌜ viewed r ≡ has (now (self .entry)) ⌝ }
+        ensures { λ r. ⌜ viewed r ≡ signature-of (now (self .entry)) ⌝ }
     {
         SignatureView {
             key: self.key,

@@ -17,9 +17,9 @@ use Rattle.signer.specs.declared.answer.Done.the-variants.{Key, Cut, Empty, Ref
 use Rattle.signer.proofs.Entries.{key-next}
 use Rattle.texts.specs.Bits.{bits-of-text}
 use Rattle.texts.specs.Replies.{signature-text, sign-spelled}
-use Rattle.texts.specs.Sessions.{Obeyed, Answered}
+use Rattle.texts.specs.Sessions.{Executed, Answered}
 use Rattle.texts.specs.declared.command.Command.{Command}
-use Rattle.texts.proofs.session.Session.obey.Needs as need
+use Rattle.texts.proofs.session.Session.execute.Needs as need
 
 spelled : (h : Mix) (s l n : ℕ) (m : List ℕ) (bs : List Bool) (d : Done) (r r₁ : SignatureRoom) → d ≡ answer l m n 2 → Room-says h s l bs d r r₁ →
     sign-spelled d (held r₁) ≡ sign-spelled (answer l m n 2) (signed h s l (next m) bs)
@@ -40,6 +40,6 @@ returns-in-Continue-sign-text g c =
     let text = c .in-Continue-sign-text .ensures tt ∙ spelled h s l (self .bits) m (bits-of-text h (c .deref .result .now) (self .bits)) (c .in-Continue-done .done) (self .room) (c .sign .last .self .room) (signs .answer) (signs .room) in
     let whole = text ∙ ap (λ (t : List ℕ). sign-spelled (answer l m (self .bits) 2) (signed h s l (next m) (bits-of-text h t (self .bits)))) (c .deref .ensures .value) in
     record {
-      session = subst (λ (k : Command). Obeyed self k (c .sign .last .self)) (sym (c .in-Sign .is)) (signs .store, signs .same);
+      session = subst (λ (k : Command). Executed self k (c .sign .last .self)) (sym (c .in-Sign .is)) (signs .store, signs .same);
       text = subst (λ (k : Command). Answered h self k (c .args .lines .now) (Some (c .in-Continue-sign-text .field-0))) (sym (c .in-Sign .is)) whole;
     }
