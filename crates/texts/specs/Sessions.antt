@@ -2,6 +2,7 @@
 use mathlib.Core.Path.{_≡_}
 use mathlib.Core.Bool.{Bool}
 use mathlib.Core.List.{List}
+use mathlib.Core.Logic.{_⊎_}
 use Prim.Native.Nat.{ℕ}
 use Rattle.hash.specs.Mix.{Mix}
 use Rattle.hash.specs.Value.{bytes-of, valueOf}
@@ -42,6 +43,11 @@ Executed s (Levels a) s₁ =
 Executed s Root s₁ = (vec-items (s₁ .store) ≡ vec-items (s .store)) × Same-settings s s₁
 Executed s (Sign t) s₁ = (vec-items (s₁ .store) ≡ stored (s .signer .levels) (vec-items (s .store)) (s .bits) 2) × Same-settings s s₁
 Executed s (Look r t) s₁ = (vec-items (s₁ .store) ≡ vec-items (s .store)) × Same-settings s s₁
+
+-- where memory fails: the store is as it was, or the next key was reserved and stays so; the settings are as they were
+abbrev pub Failed : (before after : Session) → Type 0
+Failed s s₁ =
+    ((vec-items (s₁ .store) ≡ vec-items (s .store)) ⊎ (vec-items (s₁ .store) ≡ stored (s .signer .levels) (vec-items (s .store)) (s .bits) 2)) × Same-settings s s₁
 
 -- the bits of a text that the session's keys sign
 abbrev pub bits-asked : Mix → Session → (text : List ℕ) → List Bool

@@ -19,7 +19,7 @@ ghost use Rattle.std.specs.Vec.{made};
 ghost use Rattle.std.specs.declared.result.Result.{Result};
 ghost use Rattle.keys.specs.declared.refusal.Refusal.{Refusal};
 ghost use Rattle.texts.specs.Bits.{bits-of-text};
-ghost use Rattle.texts.specs.Sessions.{look-answer, Executed, Answered};
+ghost use Rattle.texts.specs.Sessions.{look-answer, Executed, Failed, Answered};
 ghost use Rattle.texts.specs.SignatureLines.{Signature-read};
 ghost use Rattle.texts.specs.declared.signature.ReadSignature.{ReadSignature};
 use crate::bits::text_bits;
@@ -133,7 +133,7 @@ impl Session {
         command: Command,
         lines: &SignatureLines,
     ) -> Result<Option<String>, AllocError>
-        ensures session { λ r. ⌜ made r (λ _. Executed (now (self .entry)) command (now (self .exit))) ⌝ }
+        ensures session { λ r. ⌜ Cases r (λ _. Executed (now (self .entry)) command (now (self .exit))) (λ _. Failed (now (self .entry)) (now (self .exit))) ⌝ }
         ensures text { λ r. ⌜ made r (λ o. Answered mix (now (self .entry)) command (now (lines .entry)) o) ⌝ }
     {
         match command {
