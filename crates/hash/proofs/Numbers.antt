@@ -1,4 +1,4 @@
--- What holds of every number: it is below 2^256, and its bytes are those of its meaning; and that any thirty-two bytes are those of a number.
+-- What holds of every number: it is below 2^256, and its bytes are those of its meaning; and that for every natural number there is one with its lowest thirty-two bytes.
 use mathlib.Core.Path.{_≡_, refl, sym, ap, _∙_}
 use mathlib.Core.List.{List, [], _∷_}
 use Prim.Native.Nat.{ℕ, zero, suc, _+_, _*_, _/_, _%_, _^_, _<_}

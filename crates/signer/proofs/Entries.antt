@@ -6,7 +6,7 @@ use Prim.Native.Nat.{ℕ, _≤_}
 use lib.Dec.{ltb, leb}
 use Rattle.std.specs.declared.option.Option.{Option}
 use Rattle.std.specs.declared.option.Option.the-variants.{Some, None}
-use Rattle.std.proofs.shelf.Tests.{cond-true, leb-true}
+use Rattle.std.proofs.shelf.Tests.{and-parts, cond-true, leb-true, true≢false}
 use Rattle.keys.specs.Refusals.{levels-refusal, bits-refusal}
 use Rattle.keys.specs.declared.refusal.Refusal.{Refusal}
 use Rattle.keys.proofs.Refused.{passed, neither}
@@ -32,18 +32,19 @@ two-writes false k e = let z : _≡_ {A = Bool} false true = e in cc
 pub answers-key : (l : ℕ) (m : List ℕ) (n : ℕ) → None ≡ refusal l m n → ltb (next m) (power l) ≡ true → Key (next m) ≡ answer l m n 2
 answers-key l m n e t = sym (two-writes (ltb (next m) (power l)) (next m) t) ∙ ap (λ (o : Option Refusal). unrefused l m 2 o) e
 
--- a key that is answered is the next one
-given-next : (t u : Bool) (i k : ℕ) → Key i ≡ cond t (Key k) (cond u Cut Empty) → i ≡ k
-given-next true u i k e = cc
-given-next false true i k e = let z : _≡_ {A = Bool} true false = cc in cc
-given-next false false i k e = let z : _≡_ {A = Bool} true false = cc in cc
+-- where a key is answered, nothing is refused, a key is left, and it is the next one
+given-where : (t u : Bool) (i k : ℕ) → Key i ≡ cond t (Key k) (cond u Cut Empty) → (t ≡ true) × (i ≡ k)
+given-where true u i k e = (refl, cc)
+given-where false true i k e = let z : _≡_ {A = Bool} true false = cc in absurd (true≢false z)
+given-where false false i k e = let z : _≡_ {A = Bool} true false = cc in absurd (true≢false z)
 
-unrefused-next : (l : ℕ) (m : List ℕ) (w i : ℕ) (o : Option Refusal) → Key i ≡ unrefused l m w o → i ≡ next m
-unrefused-next l m w i (Some r) e = let z : _≡_ {A = Bool} true false = cc in cc
-unrefused-next l m w i None e = given-next (gives l m w) (ltb (next m) (power l)) i (next m) e
+unrefused-key : (l : ℕ) (m : List ℕ) (w i : ℕ) (o : Option Refusal) → Key i ≡ unrefused l m w o → (None ≡ o) × (ltb (next m) (power l) ≡ true) × (i ≡ next m)
+unrefused-key l m w i (Some r) e = let z : _≡_ {A = Bool} true false = cc in absurd (true≢false z)
+unrefused-key l m w i None e =
+    let k = given-where (gives l m w) (ltb (next m) (power l)) i (next m) e in (refl, and-parts _ _ (k .0) .0, k .1)
 
-pub key-next : (l : ℕ) (m : List ℕ) (n w i : ℕ) → Key i ≡ answer l m n w → i ≡ next m
-key-next l m n w i e = unrefused-next l m w i (refusal l m n) e
+pub key-answered : (l : ℕ) (m : List ℕ) (n w i : ℕ) → Key i ≡ answer l m n w → (None ≡ refusal l m n) × (ltb (next m) (power l) ≡ true) × (i ≡ next m)
+key-answered l m n w i e = unrefused-key l m w i (refusal l m n) e
 
 pub stores-count : (l : ℕ) (m : List ℕ) (n : ℕ) → None ≡ refusal l m n → ltb (next m) (power l) ≡ true → reserved 2 m ≡ stored l m n 2
 stores-count l m n e t =

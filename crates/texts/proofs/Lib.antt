@@ -5,3 +5,4 @@ mod Cuts
 mod Decimals
 mod Hexes
 mod Lines
+mod Promised

@@ -28,7 +28,7 @@ pub by-values : (ns : List Number) → joined spaced ns ≡ joined (λ v. 32 ∷
 by-values [] = refl
 by-values (n ∷ ns) = let b = bytes-back n in let r = by-values ns in cc
 
--- and for every row of meanings there are numbers that have them
+-- and for every row of natural numbers there are some that are written like them
 pub numbered : (vs : List ℕ) → (ns : List Number) × (joined spaced ns ≡ joined (λ v. 32 ∷ hex (bytes-of v)) vs)
 numbered [] = ([], refl)
 numbered (v ∷ vs) =

@@ -1,17 +1,21 @@
 -- What a command is answered, and what it leaves of the session. For every hash h; power lasts for both writes of a `sign`. Assumes nothing: these are definitions.
 use mathlib.Core.Path.{_≡_}
-use mathlib.Core.Bool.{Bool}
+use mathlib.Core.Bool.{Bool, true}
 use mathlib.Core.List.{List}
 use mathlib.Core.Logic.{_⊎_}
 use Prim.Native.Nat.{ℕ}
+use lib.Chars.{codes}
 use Rattle.hash.specs.Mix.{Mix}
 use Rattle.hash.specs.Value.{bytes-of, valueOf}
 use Rattle.keys.specs.Refusals.{first, levels-refusal, bits-refusal}
 use Rattle.keys.specs.declared.refusal.Refusal.{Refusal}
 use Rattle.tree.specs.Tree.{node}
+use Rattle.signatures.specs.Rows.{Located-collision}
 use Rattle.signatures.specs.Signatures.{signed, accepted}
 use Rattle.signer.specs.Answers.{answer, stored}
+use Rattle.signer.specs.Promises.{Own}
 use Rattle.signer.specs.Store.{next}
+use Rattle.signer.specs.declared.answer.Done.the-variants.{Key}
 use Rattle.std.specs.Of.String.{string-bytes}
 use Rattle.std.specs.Of.Vec.{vec-items}
 use Rattle.std.specs.Options.{Cases}
@@ -22,8 +26,8 @@ use Rattle.std.specs.declared.result.Result.the-variants.{Ok, Err}
 use Rattle.std.specs.declared.alloc.Global.{Global}
 use Rattle.std.specs.declared.string.String.{String}
 use Rattle.texts.specs.Bits.{bits-of-text}
-use Rattle.texts.specs.Replies.{refusal-spelled, sign-spelled, look-spelled}
-use Rattle.texts.specs.SignatureLines.{signature-of, Signature-read}
+use Rattle.texts.specs.Replies.{signature-text, refusal-spelled, sign-spelled, look-spelled}
+use Rattle.texts.specs.SignatureLines.{signature-of, Lines-of, Signature-read}
 use Rattle.texts.specs.Spelling.{hex}
 use Rattle.texts.specs.declared.command.Command.{Command}
 use Rattle.texts.specs.declared.command.Command.the-variants.{Store, Levels, Root, Sign, Look}
@@ -85,3 +89,20 @@ Answered h s (Levels a) t o = o ≡ None
 Answered h s Root t o = Says o (root-answer h s)
 Answered h s (Sign x) t o = Says o (sign-answer h s (vec-items x))
 Answered h s (Look r x) t o = (g : Result ReadSignature Refusal) × Signature-read t g × Says o (look-answer h s (valueOf r) (vec-items x) g)
+
+-- What is promised of the answers, above how they are worked out. A signature that is printed is accepted, for its text and the session's own root. And where `accepted` is printed, the lines are those of a signature that is, of every signer whose root this is, the signer's own for just these bits; or a row that looking at it hashes and one of the signer's own tree differ and hash to the same
+abbrev pub Promised : Mix → Session → Command → SignatureLines → Option (String Global) → Type 0
+Promised h s (Store v) t o = Unit {0}
+Promised h s (Levels a) t o = Unit {0}
+Promised h s Root t o = Unit {0}
+Promised h s (Sign x) t o =
+    let seed = valueOf (s .signer .seed) in
+    let l = s .signer .levels in
+    let bs = bits-asked h s (vec-items x) in
+    (i : ℕ) → Key i ≡ answer l (vec-items (s .store)) (s .bits) 2 →
+    Says o (signature-text (signed h seed l i bs)) × (accepted h (node h (s .bits) seed l 0) l bs (signed h seed l i bs) ≡ true)
+Promised h s (Look r x) t o =
+    let bs = bits-asked h s (vec-items x) in
+    Says o (codes "accepted") →
+    (g : ReadSignature) × Lines-of (signature-of g) t
+    × ((seed l n : ℕ) → valueOf r ≡ node h n seed l 0 → Own h seed l n (s .signer .levels) bs (signature-of g) ⊎ Located-collision h n seed l bs (signature-of g))

@@ -6,6 +6,7 @@ ghost use mathlib.Core.Logic.{_⊎_};
 ghost use Prim.Native.Nat.{ℕ};
 ghost use Rattle.hash.specs.Value.{valueOf};
 ghost use Rattle.keys.specs.Refusals.{first, levels-refusal, bits-refusal, Unless};
+ghost use Rattle.keys.specs.declared.refusal.Refusal.{Refusal};
 ghost use Rattle.tree.specs.Tree.{node};
 ghost use Rattle.signatures.specs.Rows.{Located-collision};
 ghost use Rattle.signatures.specs.Signatures.{blank, accepted};
@@ -17,9 +18,8 @@ ghost use Rattle.std.specs.Of.Vec.{vec-items};
 ghost use Rattle.std.specs.Results.{Cases};
 ghost use Rattle.std.specs.Vec.{made};
 ghost use Rattle.std.specs.declared.result.Result.{Result};
-ghost use Rattle.keys.specs.declared.refusal.Refusal.{Refusal};
 ghost use Rattle.texts.specs.Bits.{bits-of-text};
-ghost use Rattle.texts.specs.Sessions.{look-answer, Executed, Failed, Answered};
+ghost use Rattle.texts.specs.Sessions.{look-answer, Executed, Failed, Answered, Promised};
 ghost use Rattle.texts.specs.SignatureLines.{Signature-read};
 ghost use Rattle.texts.specs.declared.signature.ReadSignature.{ReadSignature};
 use crate::bits::text_bits;
@@ -135,6 +135,7 @@ impl Session {
     ) -> Result<Option<String>, AllocError>
         ensures session { λ r. ⌜ Cases r (λ _. Executed (now (self .entry)) command (now (self .exit))) (λ _. Failed (now (self .entry)) (now (self .exit))) ⌝ }
         ensures text { λ r. ⌜ made r (λ o. Answered mix (now (self .entry)) command (now (lines .entry)) o) ⌝ }
+        ensures promised { λ r. ⌜ made r (λ o. Promised mix (now (self .entry)) command (now (lines .entry)) o) ⌝ }
     {
         match command {
             Command::Store(store) => {
