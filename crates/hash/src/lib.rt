@@ -1,4 +1,6 @@
 // Numbers of 256 bits, and the hash over rows of numbers as a trait. Nothing in the crates above knows which hash it is.
+#![tactic(auto)]
+
 pub mod number;
 pub mod purpose;
 pub mod row;

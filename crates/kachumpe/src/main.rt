@@ -1,4 +1,6 @@
 // The program: it reads lines, asks the parts beneath, and prints what they answer.
+#![tactic(auto)]
+
 ghost use Rattle.std.specs.Prelude.{◌≡◌, false, IfOk, OnOk};
 ghost use Rattle.texts.specs.Commands.{takes_lines};
 ghost use Rattle.texts.specs.Sessions.{Executed};

@@ -1,4 +1,6 @@
 // One-time keys: their secret numbers, what is shown of them, a key's leaf; and the signer's type with its limits and refusals.
+#![tactic(auto)]
+
 pub mod limits;
 pub mod one_time;
 pub mod refusal;

@@ -1,4 +1,6 @@
 // Signatures: what one is, signing with a given key, and verifying one.
+#![tactic(auto)]
+
 pub mod room;
 pub mod signing;
 pub mod verifying;

@@ -1,4 +1,6 @@
 // The signer: the store that counts which key is next, reserving a key, the entry that signs, the entry that looks, and what is promised of them.
+#![tactic(auto)]
+
 pub mod answer;
 pub mod entry;
 pub mod promises;

@@ -1,4 +1,6 @@
 // Texts to bits, and the lines that are read and printed.
+#![tactic(auto)]
+
 pub mod bits;
 pub mod command;
 pub mod decimal;

@@ -1,4 +1,6 @@
 // The tree over the keys: its root, and the walk up from a leaf along an authentication path.
+#![tactic(auto)]
+
 ghost use Rattle.std.specs.Prelude.{◌≡◌, ltb, map, if◌then◌else◌, Some, None, nat_lt};
 ghost use Rattle.hash.specs.Value.{value_of};
 ghost use Rattle.keys.specs.Refusals.{first, levels_refusal, bits_refusal, Unless};
