@@ -12,8 +12,8 @@ loop-i-preserved c =
     let lb : c.loop-i.i < length c.args.b.now = omega arith in
     let ea = number_more 256 c.args.a.now c.loop-i.i la in
     let eb = number_more 256 c.args.b.now c.loop-i.i lb in
-    let fa = c.type-inv.a c.loop-i.i in
-    let fb = c.type-inv.b c.loop-i.i in
+    let fa = c.type_inv.a c.loop-i.i in
+    let fb = c.type_inv.b c.loop-i.i in
     let same : c.loop-i.same ≡ true → worth (take c.loop-i.i c.args.a.now) ≡ worth (take c.loop-i.i c.args.b.now) = c.loop-i.invariant.0 in
     let back : worth (take c.loop-i.i c.args.a.now) ≡ worth (take c.loop-i.i c.args.b.now) → c.loop-i.same ≡ true = c.loop-i.invariant.1 in
     elim c.if-a-i.branch [

@@ -9,5 +9,5 @@ pub returns : goal.returns
 returns c xs h =
     let v = value_of c.args.x.now in
     let s = c.args.self.now.state in
-    let r : c.residue.result ≡ v % 4294967291 = c.residue.ensures ∙ ap (λ bs. worth bs % 4294967291) c.to-bytes-bytes.ensures.bytes in
+    let r : c.residue.result ≡ v % 4294967291 = c.residue.ensures ∙ ap (λ bs. worth bs % 4294967291) c.to_bytes-bytes.ensures.bytes in
     ap (λ k. (k * 65599 + c.residue.result) % 4294967291) c.from.ensures ∙ (ap (λ k. (s * 65599 + k) % 4294967291) r ∙ (add-mod-mod (s * 65599) v 4294967291 ∙ (ap (λ k. (k * 65599 + v) % 4294967291) h ∙ sym (run_push 0 xs v))))
