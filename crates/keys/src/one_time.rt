@@ -14,7 +14,7 @@ pub struct OneTimeKey {
 
 // What is shown of a secret number.
 pub fn show<H: RowHasher>(secret: &Number) -> Number
-    ensures { value_of result ≡ shown mix (value_of secret.now) }
+    ensures { value_of result ≡ shown H.mix (value_of secret.now) }
 {
     let mut hasher = H::start(Purpose::Shown);
     hasher.absorb(secret);
@@ -24,7 +24,7 @@ pub fn show<H: RowHasher>(secret: &Number) -> Number
 impl OneTimeKey {
     // The secret number for a bit, from 0, being set or not.
     pub fn secret<H: RowHasher>(&self, bit: u64, set: bool) -> Number
-        ensures { value_of result ≡ secret mix (value_of self.now.seed) self.now.index bit set }
+        ensures { value_of result ≡ secret H.mix (value_of self.now.seed) self.now.index bit set }
     {
         let mut hasher = H::start(Purpose::Secret);
         hasher.absorb(&self.seed);
@@ -36,14 +36,14 @@ impl OneTimeKey {
 
     // What is shown of that secret number.
     pub fn shown<H: RowHasher>(&self, bit: u64, set: bool) -> Number
-        ensures { value_of result ≡ shown mix (secret mix (value_of self.now.seed) self.now.index bit set) }
+        ensures { value_of result ≡ shown H.mix (secret H.mix (value_of self.now.seed) self.now.index bit set) }
     {
         show::<H>(&self.secret::<H>(bit, set))
     }
 
     // The leaf of the key for so many bits, hashed as its numbers come.
     pub fn leaf<H: RowHasher>(&self, bits: u64) -> Number
-        ensures { value_of result ≡ leaf mix bits (value_of self.now.seed) self.now.index }
+        ensures { value_of result ≡ leaf H.mix bits (value_of self.now.seed) self.now.index }
     {
         let mut hasher = H::start(Purpose::Leaf);
         for bit in 0..bits {

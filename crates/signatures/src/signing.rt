@@ -18,9 +18,9 @@ fn reveal<H: RowHasher>(
 )
     requires parts { length bits.now ≤ length parts.old }
     requires others { length bits.now ≤ length others.old }
-    ensures parts { map value_of (take (length bits.now) parts.new) ≡ parts_from mix (value_of key.now.seed) key.now.index 0 bits.now }
+    ensures parts { map value_of (take (length bits.now) parts.new) ≡ parts_from H.mix (value_of key.now.seed) key.now.index 0 bits.now }
     ensures rest { (drop (length bits.now) parts.new ≡ drop (length bits.now) parts.old) × (drop (length bits.now) others.new ≡ drop (length bits.now) others.old) }
-    ensures others { map value_of (take (length bits.now) others.new) ≡ others_from mix (value_of key.now.seed) key.now.index 0 bits.now }
+    ensures others { map value_of (take (length bits.now) others.new) ≡ others_from H.mix (value_of key.now.seed) key.now.index 0 bits.now }
 {
     for j in 0..bits.len() {
         let bit = bits[j];
@@ -36,7 +36,7 @@ pub fn sign_with<H: RowHasher>(
     bits: &[bool],
     room: &mut SignatureRoom,
 ) -> Result<(), Refusal>
-    ensures answer { Unless (first (levels_refusal signer.now.levels) (bits_refusal (length bits.now))) result (λ _. MadeIn (signed mix (value_of signer.now.seed) signer.now.levels key bits.now) room.old room.new) }
+    ensures answer { Unless (first (levels_refusal signer.now.levels) (bits_refusal (length bits.now))) result (λ _. MadeIn (signed H.mix (value_of signer.now.seed) signer.now.levels key bits.now) room.old room.new) }
     ensures same { OnErr result (room.new ≡ room.old) }
 {
     if let Some(refusal) = Signer::refuse_levels(signer.levels) {

@@ -26,7 +26,7 @@ fn absorb_pair<H: RowHasher>(hasher: &mut H, set: bool, own: &Number, other: &Nu
 fn leaf_of<H: RowHasher>(bits: &[bool], parts: &[Number], others: &[Number]) -> Number
     requires parts { length parts.now ≡ length bits.now }
     requires others { length others.now ≡ length bits.now }
-    ensures { value_of result ≡ mix (leaf_row_of mix bits.now (map value_of parts.now) (map value_of others.now)) }
+    ensures { value_of result ≡ H.mix (leaf_row_of H.mix bits.now (map value_of parts.now) (map value_of others.now)) }
 {
     let mut hasher = H::start(Purpose::Leaf);
     for j in 0..bits.len() {
@@ -43,7 +43,7 @@ pub fn verify<H: RowHasher>(
     bits: &[bool],
     signature: SignatureView<'_>,
 ) -> bool
-    ensures { result ≡ accepted mix (value_of root.now) levels bits.now (viewed signature.entry) }
+    ensures { result ≡ accepted H.mix (value_of root.now) levels bits.now (viewed signature.entry) }
 {
     let count = bits.len();
     if !in_tree(signature.key, levels) {

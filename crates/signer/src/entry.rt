@@ -66,7 +66,7 @@ fn sign_counted<H: RowHasher>(
     requires levels { None ≡ levels_refusal signer.now.levels }
     requires bits { None ≡ bits_refusal (length bits.now) }
     ensures answer { result ≡ Key (next store.now - 1) }
-    ensures room { MadeIn (signed mix (value_of signer.now.seed) signer.now.levels (next store.now - 1) bits.now) room.old room.new }
+    ensures room { MadeIn (signed H.mix (value_of signer.now.seed) signer.now.levels (next store.now - 1) bits.now) room.old room.new }
 {
     let key = u64::from(next_key(store)) - 1;
     match sign_with::<H>(signer, key, bits, room) {
@@ -89,7 +89,7 @@ fn sign_next<H: RowHasher>(
     requires bits { None ≡ bits_refusal (length bits.now) }
     ensures answer { result ≡ Key (next store.old) }
     ensures store { store.new ≡ reserved 2 store.old }
-    ensures room { MadeIn (signed mix (value_of signer.now.seed) signer.now.levels (next store.old) bits.now) room.old room.new }
+    ensures room { MadeIn (signed H.mix (value_of signer.now.seed) signer.now.levels (next store.old) bits.now) room.old room.new }
 {
     reserve(store);
     sign_counted::<H>(signer, bits, store, room)
@@ -104,8 +104,8 @@ pub fn sign<H: RowHasher>(
 ) -> Done
     ensures answer { result ≡ answer signer.now.levels store.old (length bits.now) 2 }
     ensures store { store.new ≡ stored signer.now.levels store.old (length bits.now) 2 }
-    ensures room { RoomSays mix (value_of signer.now.seed) signer.now.levels bits.now result room.old room.new }
-    ensures accepted { GivenAccepted mix (value_of signer.now.seed) signer.now.levels bits.now result room.new }
+    ensures room { RoomSays H.mix (value_of signer.now.seed) signer.now.levels bits.now result room.old room.new }
+    ensures accepted { GivenAccepted H.mix (value_of signer.now.seed) signer.now.levels bits.now result room.new }
 {
     if let Some(refusal) = refused(signer.levels, store, bits.len() as u64) {
         return Done::Refused(refusal);
@@ -123,8 +123,8 @@ pub fn look<H: RowHasher>(
     bits: &[bool],
     signature: SignatureView<'_>,
 ) -> bool
-    ensures answer { result ≡ accepted mix (value_of root.now) levels bits.now (viewed signature.entry) }
-    ensures own { (s l n : ℕ) → result ≡ true → value_of root.now ≡ node mix n s l 0 → Own mix s l n levels bits.now (viewed signature.entry) ⊎ LocatedCollision mix n s l bits.now (viewed signature.entry) }
+    ensures answer { result ≡ accepted H.mix (value_of root.now) levels bits.now (viewed signature.entry) }
+    ensures own { (s l n : ℕ) → result ≡ true → value_of root.now ≡ node H.mix n s l 0 → Own H.mix s l n levels bits.now (viewed signature.entry) ⊎ LocatedCollision H.mix n s l bits.now (viewed signature.entry) }
 {
     verify::<H>(root, levels, bits, signature)
 }

@@ -8,7 +8,7 @@ use std::alloc::{AllocError, Global};
 
 // The hash of a text: of its bytes, one number for each.
 pub fn digest<H: RowHasher>(text: &[u8]) -> Number
-    ensures { value_of result ≡ mix (text_row text.now) }
+    ensures { value_of result ≡ H.mix (text_row text.now) }
 {
     let mut hasher = H::start(Purpose::Text);
     for byte in text {
@@ -35,7 +35,7 @@ pub fn text_bits<H: RowHasher>(
     text: &[u8],
     count: u64,
 ) -> Result<Vec<bool>, AllocError>
-    ensures { IfOk result (λ v. v.items ≡ bits_of_text mix text.now count) }
+    ensures { IfOk result (λ v. v.items ≡ bits_of_text H.mix text.now count) }
 {
     bits_of(heap, &digest::<H>(text), count)
 }

@@ -54,7 +54,7 @@ impl Session {
 
     // The root of the signer's tree.
     pub fn root<H: RowHasher>(&self) -> Result<Number, Refusal>
-        ensures { Unless (first (levels_refusal self.now.signer.levels) (bits_refusal self.now.bits)) result (λ v. value_of v ≡ node mix self.now.bits (value_of self.now.signer.seed) self.now.signer.levels 0) }
+        ensures { Unless (first (levels_refusal self.now.signer.levels) (bits_refusal self.now.bits)) result (λ v. value_of v ≡ node H.mix self.now.bits (value_of self.now.signer.seed) self.now.signer.levels 0) }
     {
         root::<H>(&self.signer, self.bits)
     }
@@ -63,8 +63,8 @@ impl Session {
     pub fn sign<H: RowHasher>(&mut self, heap: Global, text: &[u8]) -> Result<Done, AllocError>
         ensures answer { IfOk result (λ d. d ≡ answer self.old.signer.levels self.old.store.items self.old.bits 2) }
         ensures store { MatchResult result (λ _. self.new.store.items ≡ stored self.old.signer.levels self.old.store.items self.old.bits 2) (λ _. self.new.store.items ≡ self.old.store.items) }
-        ensures room { MatchResult result (λ d. RoomSays mix (value_of self.old.signer.seed) self.old.signer.levels (bits_of_text mix text.now self.old.bits) d self.old.room self.new.room) (λ _. self.new.room ≡ self.old.room) }
-        ensures accepted { IfOk result (λ d. GivenAccepted mix (value_of self.old.signer.seed) self.old.signer.levels (bits_of_text mix text.now self.old.bits) d self.new.room) }
+        ensures room { MatchResult result (λ d. RoomSays H.mix (value_of self.old.signer.seed) self.old.signer.levels (bits_of_text H.mix text.now self.old.bits) d self.old.room self.new.room) (λ _. self.new.room ≡ self.old.room) }
+        ensures accepted { IfOk result (λ d. GivenAccepted H.mix (value_of self.old.signer.seed) self.old.signer.levels (bits_of_text H.mix text.now self.old.bits) d self.new.room) }
         ensures same { (self.new.signer ≡ self.old.signer) × (self.new.bits ≡ self.old.bits) }
     {
         if let Some(refusal) = refused(self.signer.levels, &self.store, self.bits) {
@@ -82,8 +82,8 @@ impl Session {
         text: &[u8],
         signature: SignatureView<'_>,
     ) -> Result<bool, AllocError>
-        ensures answer { IfOk result (λ b. b ≡ accepted mix (value_of root.now) self.now.signer.levels (bits_of_text mix text.now self.now.bits) (viewed signature.entry)) }
-        ensures own { IfOk result (λ b. (s l n : ℕ) → b ≡ true → value_of root.now ≡ node mix n s l 0 → Own mix s l n self.now.signer.levels (bits_of_text mix text.now self.now.bits) (viewed signature.entry) ⊎ LocatedCollision mix n s l (bits_of_text mix text.now self.now.bits) (viewed signature.entry)) }
+        ensures answer { IfOk result (λ b. b ≡ accepted H.mix (value_of root.now) self.now.signer.levels (bits_of_text H.mix text.now self.now.bits) (viewed signature.entry)) }
+        ensures own { IfOk result (λ b. (s l n : ℕ) → b ≡ true → value_of root.now ≡ node H.mix n s l 0 → Own H.mix s l n self.now.signer.levels (bits_of_text H.mix text.now self.now.bits) (viewed signature.entry) ⊎ LocatedCollision H.mix n s l (bits_of_text H.mix text.now self.now.bits) (viewed signature.entry)) }
     {
         let bits = text_bits::<H>(heap, text, self.bits)?;
         Ok(look::<H>(root, self.signer.levels, &bits, signature))
@@ -97,7 +97,7 @@ impl Session {
         text: &[u8],
         lines: &SignatureLines,
     ) -> Result<String, AllocError>
-        ensures { IfOk result (λ s. (g : Result ReadSignature Refusal) × SignatureRead lines.now g × (string_bytes s ≡ look_answer mix self.now (value_of root.now) text.now g)) }
+        ensures { IfOk result (λ s. (g : Result ReadSignature Refusal) × SignatureRead lines.now g × (string_bytes s ≡ look_answer H.mix self.now (value_of root.now) text.now g)) }
     {
         match lines.read(heap)? {
             Ok(signature) => {
@@ -116,8 +116,8 @@ impl Session {
         lines: &SignatureLines,
     ) -> Result<Option<String>, AllocError>
         ensures session { MatchResult result (λ _. Executed self.old command self.new) (λ _. Failed self.old self.new) }
-        ensures text { IfOk result (λ o. Answered mix self.old command lines.now o) }
-        ensures promised { IfOk result (λ o. Promised mix self.old command lines.now o) }
+        ensures text { IfOk result (λ o. Answered H.mix self.old command lines.now o) }
+        ensures promised { IfOk result (λ o. Promised H.mix self.old command lines.now o) }
     {
         match command {
             Command::Store(store) => {

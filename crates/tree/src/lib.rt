@@ -32,7 +32,7 @@ pub fn in_tree(key: u64, levels: u64) -> bool
 
 // The node above two.
 fn parent<H: RowHasher>(left: &Number, right: &Number) -> Number
-    ensures { value_of result ≡ mix (node_row (value_of left.now) (value_of right.now)) }
+    ensures { value_of result ≡ H.mix (node_row (value_of left.now) (value_of right.now)) }
 {
     let mut hasher = H::start(Purpose::Node);
     hasher.absorb(left);
@@ -42,7 +42,7 @@ fn parent<H: RowHasher>(left: &Number, right: &Number) -> Number
 
 // The node above one at a place, from its value and the one beside it: left or right by the place's lowest bit.
 fn join<H: RowHasher>(place: u64, own: &Number, beside: &Number) -> Number
-    ensures { value_of result ≡ mix (fork place (value_of own.now) (value_of beside.now)) }
+    ensures { value_of result ≡ H.mix (fork place (value_of own.now) (value_of beside.now)) }
 {
     if place % 2 == 0 {
         parent::<H>(own, beside)
@@ -53,7 +53,7 @@ fn join<H: RowHasher>(place: u64, own: &Number, beside: &Number) -> Number
 
 // Where the walk up from a key's leaf along a path comes to. It takes the key's bits one by one.
 pub fn climb<H: RowHasher>(key: u64, leaf: &Number, path: &[Number]) -> Number
-    ensures { value_of result ≡ up mix (map value_of path.now) key (value_of leaf.now) }
+    ensures { value_of result ≡ up H.mix (map value_of path.now) key (value_of leaf.now) }
 {
     let mut value = *leaf;
     let mut place = key;
@@ -66,7 +66,7 @@ pub fn climb<H: RowHasher>(key: u64, leaf: &Number, path: &[Number]) -> Number
 
 // The root of the signer's tree over keys of so many bits. So far a tree has no level, and its root is the leaf of its one key.
 pub fn root<H: RowHasher>(signer: &Signer, bits: u64) -> Result<Number, Refusal>
-    ensures { Unless (first (levels_refusal signer.now.levels) (bits_refusal bits)) result (λ v. value_of v ≡ node mix bits (value_of signer.now.seed) signer.now.levels 0) }
+    ensures { Unless (first (levels_refusal signer.now.levels) (bits_refusal bits)) result (λ v. value_of v ≡ node H.mix bits (value_of signer.now.seed) signer.now.levels 0) }
 {
     if let Some(refusal) = Signer::refuse_levels(signer.levels) {
         return Err(refusal);

@@ -28,7 +28,7 @@ fn make_node<H: RowHasher>(
     requires few { level ≤ max_levels }
     requires small { place * 2 ^ level < 2 ^ 64 }
     requires room { level ≤ length scratch.old }
-    ensures value { value_of result ≡ node mix bits (value_of signer.now.seed) level place }
+    ensures value { value_of result ≡ node H.mix bits (value_of signer.now.seed) level place }
     ensures rest { drop level scratch.new ≡ drop level scratch.old }
 {
     make_path::<H>(signer, bits, level, place << level, scratch)
@@ -45,8 +45,8 @@ fn make_path<H: RowHasher>(
 ) -> Number
     requires few { level ≤ max_levels }
     requires room { level ≤ length path.old }
-    ensures value { value_of result ≡ node mix bits (value_of signer.now.seed) level (key / 2 ^ level) }
-    ensures path { map value_of (take level path.new) ≡ path_from mix bits (value_of signer.now.seed) 0 level key }
+    ensures value { value_of result ≡ node H.mix bits (value_of signer.now.seed) level (key / 2 ^ level) }
+    ensures path { map value_of (take level path.new) ≡ path_from H.mix bits (value_of signer.now.seed) 0 level key }
     ensures rest { drop level path.new ≡ drop level path.old }
 {
     if level == 0 {
@@ -67,7 +67,7 @@ pub fn authentication_path<H: RowHasher>(
     key: u64,
     path: &mut [Number; Signer::MAX_LEVELS],
 ) -> Result<(), Refusal>
-    ensures answer { Unless (first (levels_refusal signer.now.levels) (bits_refusal bits)) result (λ _. (map value_of (take signer.now.levels path.new) ≡ path_from mix bits (value_of signer.now.seed) 0 signer.now.levels key) × (drop signer.now.levels path.new ≡ drop signer.now.levels path.old)) }
+    ensures answer { Unless (first (levels_refusal signer.now.levels) (bits_refusal bits)) result (λ _. (map value_of (take signer.now.levels path.new) ≡ path_from H.mix bits (value_of signer.now.seed) 0 signer.now.levels key) × (drop signer.now.levels path.new ≡ drop signer.now.levels path.old)) }
     ensures same { OnErr result (path.new ≡ path.old) }
 {
     if let Some(refusal) = signer.refuse(bits) {
