@@ -14,9 +14,9 @@ returns g c =
     let n = c.args.bits in
     let l = c.args.signer.now.levels in
     let seed = c.args.signer.now.seed in
-    let few = levels_taken l c.in-default.ensures in
+    let few = levels_taken l c.in_default.ensures in
     let none : l ≡ 0 = omega arith in
     let own = ap (λ (s : Number). leaf h n (value_of s) c.key.result.index) c.key.ensures.seed in
     let first = ap (λ (i : ℕ). leaf h n (value_of seed) i) c.key.ensures.index in
-    made (levels_refusal l) (bits_refusal n) c.leaf.result _ c.in-default.ensures c.in-default-refuse-bits.ensures
+    made (levels_refusal l) (bits_refusal n) c.leaf.result _ c.in_default.ensures c.in_default-refuse_bits.ensures
     (c.leaf.ensures ∙ (own ∙ (first ∙ sym (no_level h n (value_of seed) l 0 none))))

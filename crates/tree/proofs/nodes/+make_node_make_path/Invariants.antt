@@ -2,8 +2,8 @@
 use Rattle.std.proofs.Common.{◌+◌, ◌*◌}
 use Rattle.tree.proofs.nodes.+make_node_make_path.Given as goal
 
-abbrev pub decreases-make-node : goal.decreases-make-node
-decreases-make-node g l = 2 * l.level + 1
+abbrev pub decreases-make_node : goal.decreases-make_node
+decreases-make_node g l = 2 * l.level + 1
 
-abbrev pub decreases-make-path : goal.decreases-make-path
-decreases-make-path g l = 2 * l.level
+abbrev pub decreases-make_path : goal.decreases-make_path
+decreases-make_path g l = 2 * l.level
