@@ -19,25 +19,25 @@ tests h r l bs g e =
 
 module _ (h : Mix) (r l : ℕ) (bs : List Bool) (g : Signature) where
   -- one test that fails is enough
-  pub no-by-key : ltb g.key (power l) ≡ false → false ≡ accepted h r l bs g
+  pub no_by_key : ltb g.key (power l) ≡ false → false ≡ accepted h r l bs g
   unfolding accepted
-  no-by-key e = sym (and_left _ _ e)
+  no_by_key e = sym (and_left _ _ e)
 
-  pub no-by-parts : (length g.parts ≡ length bs → ⊥) → false ≡ accepted h r l bs g
+  pub no_by_parts : (length g.parts ≡ length bs → ⊥) → false ≡ accepted h r l bs g
   unfolding accepted
-  no-by-parts e = sym (and_right (ltb g.key (power l)) _ (and_left _ _ (ne_eqb _ _ e)))
+  no_by_parts e = sym (and_right (ltb g.key (power l)) _ (and_left _ _ (ne_eqb _ _ e)))
 
-  pub no-by-others : (length g.others ≡ length bs → ⊥) → false ≡ accepted h r l bs g
+  pub no_by_others : (length g.others ≡ length bs → ⊥) → false ≡ accepted h r l bs g
   unfolding accepted
-  no-by-others e = sym (and_right (ltb g.key (power l)) _ (and_right (eqb (length g.parts) (length bs)) _ (and_left _ _ (ne_eqb _ _ e))))
+  no_by_others e = sym (and_right (ltb g.key (power l)) _ (and_right (eqb (length g.parts) (length bs)) _ (and_left _ _ (ne_eqb _ _ e))))
 
-  pub no-by-path : (length g.path ≡ l → ⊥) → false ≡ accepted h r l bs g
+  pub no_by_path : (length g.path ≡ l → ⊥) → false ≡ accepted h r l bs g
   unfolding accepted
-  no-by-path e =
+  no_by_path e =
       sym (and_right (ltb g.key (power l)) _ (and_right (eqb (length g.parts) (length bs)) _ (and_right (eqb (length g.others) (length bs)) _ (and_left _ _ (ne_eqb _ _ e)))))
 
   -- and with the others passed the root decides
-  pub by-root : ltb g.key (power l) ≡ true → length g.parts ≡ length bs → length g.others ≡ length bs → length g.path ≡ l →
+  pub by_root : ltb g.key (power l) ≡ true → length g.parts ≡ length bs → length g.others ≡ length bs → length g.path ≡ l →
       eqb (up h g.path g.key (h (leaf_row_of h bs g.parts g.others))) r ≡ accepted h r l bs g
   unfolding accepted
-  by-root a b c d = sym (rw (a, eq-eqb _ _ b, eq-eqb _ _ c, eq-eqb _ _ d) refl)
+  by_root a b c d = sym (rw (a, eq-eqb _ _ b, eq-eqb _ _ c, eq-eqb _ _ d) refl)

@@ -90,14 +90,14 @@ module _ (h : Mix) (n s l : ℕ) (A : List ℕ → Type 0) where
 
 -- each of the three sorts of rows is looked at
 module _ (h : Mix) (bs : List Bool) (g : Signature) where
-  see-part : (p : ℕ) → In p g.parts → In (shown_row p) (looked_rows h bs g)
-  see-part p i = In_left (shown_row p) (map shown_row g.parts) _ (In-map shown_row p g.parts i)
+  see_part : (p : ℕ) → In p g.parts → In (shown_row p) (looked_rows h bs g)
+  see_part p i = In_left (shown_row p) (map shown_row g.parts) _ (In-map shown_row p g.parts i)
 
-  see-leaf : In (leaf_row_of h bs g.parts g.others) (looked_rows h bs g)
-  see-leaf = In_right _ (map shown_row g.parts) _ (inl refl)
+  see_leaf : In (leaf_row_of h bs g.parts g.others) (looked_rows h bs g)
+  see_leaf = In_right _ (map shown_row g.parts) _ (inl refl)
 
-  see-walk : (a : List ℕ) → In a (walked_rows h g.path g.key (h (leaf_row_of h bs g.parts g.others))) → In a (looked_rows h bs g)
-  see-walk a i = In_right a (map shown_row g.parts) _ (inr i)
+  see_walk : (a : List ℕ) → In a (walked_rows h g.path g.key (h (leaf_row_of h bs g.parts g.others))) → In a (looked_rows h bs g)
+  see_walk a i = In_right a (map shown_row g.parts) _ (inr i)
 
 pub own_or_located_lem : (h : Mix) (s l n k : ℕ) (bs : List Bool) (g : Signature) → accepted h (node h n s l 0) k bs g ≡ true →
     ((n ≡ length bs) × (k ≡ l) × (g ≡ signed h s l g.key bs)) ⊎ LocatedCollision h n s l bs g
@@ -106,12 +106,12 @@ own_or_located_lem h s l n k bs g acc =
     let A : List ℕ → Type 0 = λ a. In a (looked_rows h bs g) in
     let t = tests h (node h n s l 0) k bs g acc in
     let below : g.key < power (length g.path) = rw t.3 t.0 in
-    elim (down h n s l A g.path g.key _ (see-walk h bs g) below t.4) [
+    elim (down h n s l A g.path g.key _ (see_walk h bs g) below t.4) [
       | inl d ↦
-          elim (bottom h n s l A d.0 (length g.path) g.key _ d.1 below (see-leaf h bs g) d.2) [
+          elim (bottom h n s l A d.0 (length g.path) g.key _ d.1 below (see_leaf h bs g) d.2) [
             | inl o ↦
                 let kl : k ≡ l = omega arith in
-                elim (rows h n s l A g.key 0 bs g.parts g.others n (rw kl at t.0) (omega arith) (see-part h bs g) t.1 t.2 o.1) [
+                elim (rows h n s l A g.key 0 bs g.parts g.others n (rw kl at t.0) (omega arith) (see_part h bs g) t.1 t.2 o.1) [
                   | inl r ↦
                       let pp : g.path ≡ path_from h (length bs) s 0 l g.key = cc in
                       inl (r.0, kl, λ i. record { key = g.key; parts = r.1 i; others = r.2 i; path = pp i })

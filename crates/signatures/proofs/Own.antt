@@ -6,7 +6,7 @@ use Rattle.keys.specs.Keys.{shown, shown_all, leaf}
 use Rattle.tree.specs.Tree.{power, node, path_from, up}
 use Rattle.tree.proofs.Walks.{climbs, length-path}
 use Rattle.signatures.specs.Signatures.{each_from, parts_from, others_from, signed, shown_of, leaf_row_of, accepted}
-use Rattle.signatures.proofs.Accepts.{by-root}
+use Rattle.signatures.proofs.Accepts.{by_root}
 use Rattle.signatures.proofs.Each.{length-each}
 
 -- what its signature shows is all that is shown of the key
@@ -24,4 +24,4 @@ root_own h s l i bs k = rw (shown_own h s i 0 bs) (climbs h (length bs) s 0 l i 
 pub own_accepted_lem : (h : Mix) (s l i : ℕ) (bs : List Bool) → i < power l → accepted h (node h (length bs) s l 0) l bs (signed h s l i bs) ≡ true
 unfolding signed
 own_accepted_lem h s l i bs k =
-    sym (by-root h (node h (length bs) s l 0) l bs (signed h s l i bs) (lt-ltb i (power l) k) (length-each _ 0 bs) (length-each _ 0 bs) (length-path h (length bs) s 0 l i)) ∙ eq-eqb _ _ (root_own h s l i bs k)
+    sym (by_root h (node h (length bs) s l 0) l bs (signed h s l i bs) (lt-ltb i (power l) k) (length-each _ 0 bs) (length-each _ 0 bs) (length-path h (length bs) s 0 l i)) ∙ eq-eqb _ _ (root_own h s l i bs k)

@@ -57,17 +57,17 @@ module _ (h : Mix) (s l n : ℕ) (A : List ℕ → Type 0) where
   Both a = A a ⊎ OwnRow h n s l a
 
   -- two secret numbers are equal only as one
-  secret-or : (i j : ℕ) (t : Bool) (k o : ℕ) (u : Bool) → i < power l → j < n → k < power l → o < n → secret h s i j t ≡ secret h s k o u →
+  secret_or : (i j : ℕ) (t : Bool) (k o : ℕ) (u : Bool) → i < power l → j < n → k < power l → o < n → secret h s i j t ≡ secret h s k o u →
       ((i ≡ k) × (j ≡ o) × (t ≡ u)) ⊎ CollisionOf h Both (OwnRow h n s l)
   unfolding secret
-  secret-or i j t k o u a b c d e =
+  secret_or i j t k o u a b c d e =
       elim (same_or h Both (OwnRow h n s l) _ _ (inr (own_secret i j t a b)) (own_secret k o u c d) e)
       [ inl y ↦ inl (cc, cc, bit_same t u (cc)) | inr z ↦ inr z ]
 
   -- and none is the hash of another row
-  other-or : (i j : ℕ) (t : Bool) (v : ℕ) → i < power l → j < n → v ≡ secret h s i j t → Other h n s l v → CollisionOf h Both (OwnRow h n s l)
+  other_or : (i j : ℕ) (t : Bool) (v : ℕ) → i < power l → j < n → v ≡ secret h s i j t → Other h n s l v → CollisionOf h Both (OwnRow h n s l)
   unfolding secret
-  other-or i j t v a b e o = (o.0, _, inr o.1, own_secret i j t a b, o.3 _, sym o.2 ∙ e)
+  other_or i j t v a b e o = (o.0, _, inr o.1, own_secret i j t a b, o.3 _, sym o.2 ∙ e)
 
 -- the promise, over all that was given
 pub knows : (h : Mix) (s l n k : ℕ) (gs : List Issued) (bs : List Bool) (g : Signature) → 1 ≤ n → Gave l n g.key bs gs → accepted h (node h n s l 0) k bs g ≡ true →
@@ -90,9 +90,9 @@ knows h s l n k gs bs g o v acc =
                 let t = v.tree a r.1 in
                 elim (number_of h n s l a.key a.request.bits number t.2 t.1 (rw t.0 at r.2)) [
                   | inl q ↦
-                      elim (secret-or h s l n (λ x. In x (looked_rows h bs g)) g.key j _ a.key q.0 _ below p.1 t.2 q.1 (sym own ∙ q.2))
+                      elim (secret_or h s l n (λ x. In x (looked_rows h bs g)) g.key j _ a.key q.0 _ below p.1 t.2 q.1 (sym own ∙ q.2))
                       [ inl z ↦ absurd (p.2 a r.1 (sym z.0) (cc)) | inr c ↦ inr c ]
-                  | inr q ↦ inr (other-or h s l n (λ x. In x (looked_rows h bs g)) g.key j _ number below p.1 own q)
+                  | inr q ↦ inr (other_or h s l n (λ x. In x (looked_rows h bs g)) g.key j _ number below p.1 own q)
                 ]
             | inr none ↦ inl (j, p.1, own, none)
           ]

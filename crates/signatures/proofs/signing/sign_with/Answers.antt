@@ -12,7 +12,7 @@ returns g c =
     let l = c.args.signer.now.levels in
     let s = value_of c.args.signer.now.seed in
     let bs = c.args.bits.now in
-    let few = levels_taken l c.in-default.ensures in
+    let few = levels_taken l c.in_default.ensures in
     let none : l ≡ 0 = omega arith in
     let seed = c.key.ensures.seed in
     let index = c.key.ensures.index in
@@ -20,6 +20,6 @@ returns g c =
     let others = rw (seed, index) at c.reveal.ensures.others in
     let rest = c.reveal.ensures.rest in
     record {
-      answer = made (levels_refusal l) (bits_refusal (length bs)) tt _ c.in-default.ensures c.in-default-refuse-bits.ensures (signed_flat h s l c.args.key c.args.key bs _ _ none parts others refl, rest.0, rest.1, refl);
+      answer = made (levels_refusal l) (bits_refusal (length bs)) tt _ c.in_default.ensures c.in_default-refuse_bits.ensures (signed_flat h s l c.args.key c.args.key bs _ _ none parts others refl, rest.0, rest.1, refl);
       same = tt;
     }

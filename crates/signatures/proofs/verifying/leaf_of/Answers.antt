@@ -13,7 +13,7 @@ loop-j-init g c = c.start-hasher.ensures
 
 pub loop-j-preserved : goal.loop-j-preserved
 loop-j-preserved g c =
-    shown_more Number g.H.RowHasher.holds g.H.RowHasher.mix value_of c.args.bits.now c.args.parts.now c.args.others.now c.loop-j.j (value_of c.show-own.result) c.index-parts-j.result c.index-others-j.result c.loop-j.hasher c.absorb-pair.new.hasher (omega arith) (omega arith) (omega arith) c.index-parts-j.is c.index-others-j.is c.show-own.ensures c.loop-j.invariant c.absorb-pair.ensures
+    shown_more Number g.H.RowHasher.holds g.H.RowHasher.mix value_of c.args.bits.now c.args.parts.now c.args.others.now c.loop-j.j (value_of c.show-own.result) c.index-parts-j.result c.index-others-j.result c.loop-j.hasher c.absorb_pair.new.hasher (omega arith) (omega arith) (omega arith) c.index-parts-j.is c.index-others-j.is c.show-own.ensures c.loop-j.invariant c.absorb_pair.ensures
 
 pub returns : goal.returns
 returns g c =
