@@ -8,18 +8,18 @@ pub returns-in-err-value : goal.returns-in-err-value
 returns-in-err-value c =
     rw c.from-residual.ensures
     (λ v rest b.
-    let cut = take (c.word-end-end.result - 0) c.args.text.now in
-    not_both (2 ^ 64) cut cut v c.in-err-value.ensures refl (before_cut c.args.text.now c.args.word.now c.word-end-end.result v rest c.requires c.word-end-end.ensures b).0)
+    let cut = take (c.word_end-end.result - 0) c.args.text.now in
+    not_both (2 ^ 64) cut cut v c.in-err-value.ensures refl (before_cut c.args.text.now c.args.word.now c.word_end-end.result v rest c.requires c.word_end-end.ensures b).0)
 
 pub returns-in-err-rest : goal.returns-in-err-rest
 returns-in-err-rest c =
     rw c.from-residual-in-err-rest.ensures
     (λ v rest b.
-    c.in-err-rest.ensures rest (before_cut c.args.text.now c.args.word.now c.word-end-end.result v rest c.requires c.word-end-end.ensures b).1)
+    c.in-err-rest.ensures rest (before_cut c.args.text.now c.args.word.now c.word_end-end.result v rest c.requires c.word_end-end.ensures b).1)
 
 pub returns : goal.returns
 returns c =
     let text = c.args.text.now in
-    let r = c.word-end-end.result in
+    let r = c.word_end-end.result in
     let from : r - 0 ≡ r = omega arith in
     (take r text, cut_at text c.args.word.now c.in-ok-rest.rest.now r c.in-ok-rest.ensures, sym (rw from at c.in-ok-value.ensures))

@@ -10,12 +10,12 @@ returns-in-err-count c =
     (λ w v rest stop e f.
     let text = c.in-ok-text.text.now in
     let here : text ≡ w ++ rest = ap (drop 1) (sym c.in-ok-text.ensures ∙ e) in
-    not_both (2 ^ 32) _ w v c.in-err-count.ensures (cut_word text w rest c.word-end-end.result c.word-end-end.ensures (decimal_spaceless (2 ^ 32) w v f) stop here).0 f)
+    not_both (2 ^ 32) _ w v c.in-err-count.ensures (cut_word text w rest c.word_end-end.result c.word_end-end.ensures (decimal_spaceless (2 ^ 32) w v f) stop here).0 f)
 
 pub returns : goal.returns
 returns c =
     let text = c.in-ok-text.text.now in
-    let r = c.word-end-end.result in
+    let r = c.word_end-end.result in
     let from : r - 0 ≡ r = omega arith in
     let split = sym (take-append-drop r text) ∙ ap (λ (t : List ℕ). take r text ++ t) (sym (take_rest text r)) in
-    (take r text, stops_there text r c.word-end-end.ensures, c.in-ok-text.ensures ∙ ap (λ (t : List ℕ). 32 ∷ t) split, sym (rw from at c.in-ok-count.ensures))
+    (take r text, stops_there text r c.word_end-end.ensures, c.in-ok-text.ensures ∙ ap (λ (t : List ℕ). 32 ∷ t) split, sym (rw from at c.in-ok-count.ensures))

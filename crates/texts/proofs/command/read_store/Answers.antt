@@ -7,11 +7,11 @@ use Rattle.texts.proofs.Cuts.{first_word, words_rest}
 use Rattle.texts.proofs.Lines.{word_more, words_all}
 use Rattle.texts.proofs.command.read_store.Goals as goal
 
-pub returns-in-default : goal.returns-in-default
-returns-in-default c vs s =
+pub returns-in_default : goal.returns-in_default
+returns-in_default c vs s =
     let k = c.loop-left.invariant.1 vs s in
-    let none = eqb-false _ _ (sym c.is-empty.ensures ∙ c.loop-left-test.true) in
-    let f = first_word c.loop-left.left.now k.0 (omega arith) k.1 in c.in-default.ensures f.0 f.1 f.2 f.3 f.4 f.5
+    let none = eqb-false _ _ (sym c.is_empty.ensures ∙ c.loop-left-test.true) in
+    let f = first_word c.loop-left.left.now k.0 (omega arith) k.1 in c.in_default.ensures f.0 f.1 f.2 f.3 f.4 f.5
 
 pub loop-left-preserved : goal.loop-left-preserved
 loop-left-preserved c =
@@ -25,4 +25,4 @@ loop-left-smaller c = omega (arith, ap length c.in-Some.ensures.2, length-append
 
 pub returns : goal.returns
 returns c =
-    words_all (decimal_of (2 ^ 32)) c.args.text.now c.loop-left.left.now (vec_items c.loop-left.numbers) (eqb-true _ _ (sym c.is-empty.ensures ∙ c.loop-left-test.false)) c.loop-left.invariant.0
+    words_all (decimal_of (2 ^ 32)) c.args.text.now c.loop-left.left.now (vec_items c.loop-left.numbers) (eqb-true _ _ (sym c.is_empty.ensures ∙ c.loop-left-test.false)) c.loop-left.invariant.0

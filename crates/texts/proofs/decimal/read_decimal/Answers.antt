@@ -21,6 +21,6 @@ loop-digit-preserved c =
 
 pub returns : goal.returns
 returns c =
-    let none = eqb-false _ _ (sym c.is-empty.ensures ∙ c.if-is-empty.false) in
+    let none = eqb-false _ _ (sym c.is_empty.ensures ∙ c.if-is_empty.false) in
     let some : 0 < length c.args.text.now = omega arith in
     good (2 ^ 64) c.args.text.now c.loop-digit.digit-index c.loop-digit.value some (omega arith) c.loop-digit.invariant.2 c.loop-digit.invariant.0 c.loop-digit.invariant.1

@@ -7,10 +7,10 @@ use Rattle.texts.proofs.hex.push_byte.Goals as goal
 pub returns : goal.returns
 returns c =
     let b = c.args.byte in
-    let high = c.digit-of.ensures in
-    let low = c.digit-of-2.ensures in
-    let small : c.digit-of.result < 128 = subst (λ (x : ℕ). x < 128) (sym high) (digit_small (b / 16) (omega arith)) in
-    let small-2 : c.digit-of-2.result < 128 = subst (λ (x : ℕ). x < 128) (sym low) (digit_small (b % 16) (omega arith)) in
+    let high = c.digit_of.ensures in
+    let low = c.digit_of-2.ensures in
+    let small : c.digit_of.result < 128 = subst (λ (x : ℕ). x < 128) (sym high) (digit_small (b / 16) (omega arith)) in
+    let small-2 : c.digit_of-2.result < 128 = subst (λ (x : ℕ). x < 128) (sym low) (digit_small (b % 16) (omega arith)) in
     let p = c.in-ok-push.ensures in
     let q = c.in-ok-push-2.ensures in
     let e = p.ascii small ∙ ap (λ (x : ℕ). x ∷ []) high in

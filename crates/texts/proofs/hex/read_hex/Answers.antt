@@ -35,4 +35,4 @@ pub returns : goal.returns
 returns c =
     let text = take_all (2 * c.loop-i.i) c.args.text.now (omega arith) in
     let bytes = take_all c.loop-i.i c.loop-i.bytes (omega (arith, c.loop-i.invariant.0)) in
-    sym text ∙ (c.loop-i.invariant.1 ∙ (ap hex bytes ∙ sym (ap hex c.from-bytes.ensures.bytes)))
+    sym text ∙ (c.loop-i.invariant.1 ∙ (ap hex bytes ∙ sym (ap hex c.from_bytes.ensures.bytes)))
