@@ -11,7 +11,7 @@ returns-in_default-read_levels c = no_levels c.args.line.now c.in-Some-after-2.t
 
 pub returns-in_default-2 : goal.returns-in_default-2
 returns-in_default-2 c =
-    no_store c.args.line.now c.in-Some-after-3.text.now c.in-Some-after-3.ensures (MatchOption-at_none _ _ c.in_default-2.is c.in-ok-numbers.ensures)
+    no_store c.args.line.now c.in-Some-after-3.text.now c.in-Some-after-3.ensures (MatchOption-at_none _ _ c.in_default-2.is c.in_ok-numbers.ensures)
 
 pub returns-then-is_empty : goal.returns-then-is_empty
 returns-then-is_empty c =

@@ -21,5 +21,5 @@ returns c cs e =
     let from : end - 0 ≡ end = omega arith in
     let root = rw from at c.in-Some.ensures in
     let cut = cut_at text (codes " ") rest end c.in-Some-after.ensures in
-    let copy = c.in-ok-from_slice.ensures.items in
+    let copy = c.in_ok-from_slice.ensures.items in
     e ∙ ap (λ (t : List ℕ). codes "look " ++ t) (cut ∙ (ap (λ (r : List ℕ). r ++ (codes " " ++ rest)) root ∙ ap (λ (t : List ℕ). hex c.in-Some.root.bytes ++ (codes " " ++ t)) (sym copy)))

@@ -18,7 +18,7 @@ loop-left-preserved c =
     let left = c.loop-left.left.now in
     let rest = c.in-Some.rest.now in
     let word = c.in-Some.ensures in
-    (word_more (decimal_of (2 ^ 32)) c.args.text.now left rest (vec_items c.loop-left.numbers) (vec_items c.push.new.self) c.in-Some.number word.0 c.loop-left.invariant.0 word.2 word.3 c.in-ok-push.ensures.items, λ vs s. let k = c.loop-left.invariant.1 vs s in words_rest left rest word.0 k.0 c.in-Some.number k.1 word.1 word.2 word.3)
+    (word_more (decimal_of (2 ^ 32)) c.args.text.now left rest (vec_items c.loop-left.numbers) (vec_items c.push.new.self) c.in-Some.number word.0 c.loop-left.invariant.0 word.2 word.3 c.in_ok-push.ensures.items, λ vs s. let k = c.loop-left.invariant.1 vs s in words_rest left rest word.0 k.0 c.in-Some.number k.1 word.1 word.2 word.3)
 
 pub loop-left-smaller : goal.loop-left-smaller
 loop-left-smaller c = omega (arith, ap length c.in-Some.ensures.2, length-append c.in-Some.ensures.0 c.in-Some.rest.now)

@@ -10,7 +10,7 @@ loop-byte-preserved c =
     let items = c.to_bytes-byte-items.result in
     let i = c.loop-byte.byte-index in
     let long : length items ≡ 32 = ap length c.to_bytes-byte-items.ensures.bytes ∙ c.args.number.now.sized in
-    c.in-ok-push_byte.ensures ∙ (ap (λ (s : List ℕ). s ++ hex_byte (get_or items i 0)) c.loop-byte.invariant ∙ written_more (string_bytes c.args.out.now) items i (omega arith))
+    c.in_ok-push_byte.ensures ∙ (ap (λ (s : List ℕ). s ++ hex_byte (get_or items i 0)) c.loop-byte.invariant ∙ written_more (string_bytes c.args.out.now) items i (omega arith))
 
 pub returns : goal.returns
 returns c =

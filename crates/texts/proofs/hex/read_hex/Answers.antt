@@ -8,28 +8,28 @@ use Rattle.texts.proofs.hex.read_hex.Goals as goal
 pub returns-then-text-ne64 : goal.returns-then-text-ne64
 returns-then-text-ne64 c n e = c.if-text-ne64.true (ap length e ∙ omega (arith, length-hex n.bytes, n.sized))
 
-pub returns-in-err-high : goal.returns-in-err-high
-returns-in-err-high c =
-    rw c.from-residual.ensures
+pub returns-in_err-high : goal.returns-in_err-high
+returns-in_err-high c =
+    rw c.from_residual.ensures
     (λ n e.
     let i = c.loop-i.i in
     let byte = n.digits i in
     let within : i < length n.bytes = omega (arith, n.sized) in
-    c.in-err-high.ensures (get_or n.bytes i 0 / 16) (omega arith) (ap (λ (cs : List ℕ). get_or cs (2 * i) 0) e ∙ hex_high n.bytes i within))
+    c.in_err-high.ensures (get_or n.bytes i 0 / 16) (omega arith) (ap (λ (cs : List ℕ). get_or cs (2 * i) 0) e ∙ hex_high n.bytes i within))
 
-pub returns-in-err-low : goal.returns-in-err-low
-returns-in-err-low c =
-    rw c.from-residual-in-err-low.ensures
+pub returns-in_err-low : goal.returns-in_err-low
+returns-in_err-low c =
+    rw c.from_residual-in_err-low.ensures
     (λ n e.
     let i = c.loop-i.i in
     let within : i < length n.bytes = omega (arith, n.sized) in
-    c.in-err-low.ensures (get_or n.bytes i 0 % 16) (omega arith) (ap (λ (cs : List ℕ). get_or cs (2 * i + 1) 0) e ∙ hex_low n.bytes i within))
+    c.in_err-low.ensures (get_or n.bytes i 0 % 16) (omega arith) (ap (λ (cs : List ℕ). get_or cs (2 * i + 1) 0) e ∙ hex_low n.bytes i within))
 
 pub loop-i-preserved : goal.loop-i-preserved
 loop-i-preserved c =
-    let high = c.in-ok-high.ensures in
-    let low = c.in-ok-low.ensures in
-    (length-set _ _ _ ∙ c.loop-i.invariant.0, read_more c.args.text.now c.loop-i.bytes c.loop-i.i c.in-ok-high.high c.in-ok-low.low (omega arith) (omega arith) low.0 high.1 low.1 c.loop-i.invariant.1)
+    let high = c.in_ok-high.ensures in
+    let low = c.in_ok-low.ensures in
+    (length-set _ _ _ ∙ c.loop-i.invariant.0, read_more c.args.text.now c.loop-i.bytes c.loop-i.i c.in_ok-high.high c.in_ok-low.low (omega arith) (omega arith) low.0 high.1 low.1 c.loop-i.invariant.1)
 
 pub returns : goal.returns
 returns c =

@@ -11,14 +11,14 @@ returns-then-text-lt65 c =
 pub returns-then-text-ne32 : goal.returns-then-text-ne32
 returns-then-text-ne32 c = record { cases = λ n rest e. c.if-text-ne32.true (ap (λ (cs : List ℕ). get_or cs 0 0) e); long = λ e. absurd (false≢true e) }
 
-pub returns-in-err-number : goal.returns-in-err-number
-returns-in-err-number c =
-    rw c.from-residual.ensures
-    (record { cases = λ n rest e. c.in-err-number.ensures n (number_at c.args.text.now n rest e); long = λ e. absurd (false≢true e) })
+pub returns-in_err-number : goal.returns-in_err-number
+returns-in_err-number c =
+    rw c.from_residual.ensures
+    (record { cases = λ n rest e. c.in_err-number.ensures n (number_at c.args.text.now n rest e); long = λ e. absurd (false≢true e) })
 
 pub returns : goal.returns
 returns c =
     record {
-      cases = number_back c.args.text.now c.in-ok-number.number (omega arith) c.if-text-ne32.false c.in-ok-number.ensures;
+      cases = number_back c.args.text.now c.in_ok-number.number (omega arith) c.if-text-ne32.false c.in_ok-number.ensures;
       long = λ e. omega arith;
     }

@@ -33,7 +33,7 @@ loop-left-preserved c =
     let left = c.loop-left.left.now in
     let none = eqb-false _ _ (sym c.is_empty.ensures ∙ c.loop-left-test.true) in
     let some : 0 < length left = omega arith in
-    (one_read line word left (vec_items c.loop-left.numbers) (vec_items c.push.new.self) c.in-Some-first_number.number c.loop-left.invariant.0 c.in-Some-first_number.ensures.cases c.in-ok-push.ensures.items, λ ns e. let k = c.loop-left.invariant.1 ns e in let f = first_of left k.0 k.1 some in (f.1, take_rest left 65 ∙ f.3))
+    (one_read line word left (vec_items c.loop-left.numbers) (vec_items c.push.new.self) c.in-Some-first_number.number c.loop-left.invariant.0 c.in-Some-first_number.ensures.cases c.in_ok-push.ensures.items, λ ns e. let k = c.loop-left.invariant.1 ns e in let f = first_of left k.0 k.1 some in (f.1, take_rest left 65 ∙ f.3))
 
 pub returns : goal.returns
 returns c =

@@ -7,4 +7,4 @@ pub returns : goal.returns
 returns c =
     let n = c.number-number.ensures in
     let p = c.place-place.ensures in
-    c.in-ok-text.ensures.ok ∙ (ap (λ (k : ℕ). decimal k ++ (codes " " ++ decimal c.place-place.result)) n ∙ ap (λ (k : ℕ). decimal (refusal_number c.args.refusal) ++ (codes " " ++ decimal k)) p)
+    c.in_ok-text.ensures.ok ∙ (ap (λ (k : ℕ). decimal k ++ (codes " " ++ decimal c.place-place.result)) n ∙ ap (λ (k : ℕ). decimal (refusal_number c.args.refusal) ++ (codes " " ++ decimal k)) p)

@@ -5,8 +5,8 @@ use Rattle.texts.specs.Replies.{root_spelled}
 use Rattle.texts.specs.Spelling.{hex}
 use Rattle.texts.proofs.reply.root_text.Goals as goal
 
-pub returns-in-ok-push_hex : goal.returns-in-ok-push_hex
-returns-in-ok-push_hex c =
+pub returns-in_ok-push_hex-in-Ok : goal.returns-in_ok-push_hex-in-Ok
+returns-in_ok-push_hex-in-Ok c =
     let n = c.in-Ok.number in
-    let text = c.in-ok-push_hex.ensures ∙ ap (λ (s : List ℕ). s ++ hex n.bytes) c.new-text.ensures.bytes in
+    let text = c.in_ok-push_hex-in-Ok.ensures ∙ ap (λ (s : List ℕ). s ++ hex n.bytes) c.new-text.ensures.bytes in
     text ∙ (ap hex (bytes_back n) ∙ sym (ap root_spelled c.in-Ok.is))

@@ -25,34 +25,34 @@ spelled h s l n m bs Cut r r₁ e same = ap (λ (d : Done). sign_spelled d (sign
 spelled h s l n m bs Empty r r₁ e same = ap (λ (d : Done). sign_spelled d (signed h s l (next m) bs)) e
 spelled h s l n m bs (Refused x) r r₁ e same = ap (λ (d : Done). sign_spelled d (signed h s l (next m) bs)) e
 
-pub returns-in-ok-sign_text : goal.returns-in-ok-sign_text
-returns-in-ok-sign_text g c =
+pub returns-in_ok-sign_text-in-Sign : goal.returns-in_ok-sign_text-in-Sign
+returns-in_ok-sign_text-in-Sign g c =
     let h = g.H.RowHasher.mix in
     let self = c.args.self.now in
     let s = value_of self.signer.seed in
     let l = self.signer.levels in
     let m = vec_items self.store in
-    let signs = c.in-ok-done.ensures in
-    let text = c.in-ok-sign_text.ensures ∙ spelled h s l self.bits m (bits_of_text h c.deref.result.now self.bits) c.in-ok-done.done self.room c.sign.new.self.room signs.answer signs.room in
+    let signs = c.in_ok-done-in-Sign.ensures in
+    let text = c.in_ok-sign_text-in-Sign.ensures ∙ spelled h s l self.bits m (bits_of_text h c.deref.result.now self.bits) c.in_ok-done-in-Sign.done self.room c.sign.new.self.room signs.answer signs.room in
     let whole = text ∙ ap (λ (t : List ℕ). sign_spelled (answer l m self.bits 2) (signed h s l (next m) (bits_of_text h t self.bits))) c.deref.ensures.value in
     let asked = sym c.in-Sign.is in
-    let answered = subst (λ (k : Command). Answered h self k c.args.lines.now (Some c.in-ok-sign_text.field-0)) asked whole in
+    let answered = subst (λ (k : Command). Answered h self k c.args.lines.now (Some c.in_ok-sign_text-in-Sign.field-0)) asked whole in
     record {
       session = subst (λ (k : Command). Executed self k c.sign.new.self) asked (signs.store, signs.same);
       text = answered;
-      promised = promised h self c.args.command c.args.lines.now (Some c.in-ok-sign_text.field-0) answered;
+      promised = promised h self c.args.command c.args.lines.now (Some c.in_ok-sign_text-in-Sign.field-0) answered;
     }
 
-pub returns-in-ok-look_at : goal.returns-in-ok-look_at
-returns-in-ok-look_at g c =
+pub returns-in_ok-look_at-in-Look : goal.returns-in_ok-look_at-in-Look
+returns-in_ok-look_at-in-Look g c =
     let h = g.H.RowHasher.mix in
     let self = c.args.self.now in
-    let found = c.in-ok-look_at.ensures in
+    let found = c.in_ok-look_at-in-Look.ensures in
     let asked = sym c.in-Look.is in
     let whole = found.2 ∙ ap (λ (t : List ℕ). look_answer h self (value_of c.in-Look.root) t found.0) c.deref-in-Look.ensures.value in
-    let answered = subst (λ (k : Command). Answered h self k c.args.lines.now (Some c.in-ok-look_at.field-0)) asked (found.0, found.1, whole) in
+    let answered = subst (λ (k : Command). Answered h self k c.args.lines.now (Some c.in_ok-look_at-in-Look.field-0)) asked (found.0, found.1, whole) in
     record {
       session = subst (λ (k : Command). Executed self k self) asked (refl, (refl, refl));
       text = answered;
-      promised = promised h self c.args.command c.args.lines.now (Some c.in-ok-look_at.field-0) answered;
+      promised = promised h self c.args.command c.args.lines.now (Some c.in_ok-look_at-in-Look.field-0) answered;
     }

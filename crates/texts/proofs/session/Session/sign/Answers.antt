@@ -22,13 +22,13 @@ returns g c =
     let m = vec_items self.store in
     let none : None ≡ refusal l m n = c.in_default.ensures ∙ ap (λ (x : List ℕ). refusal l x n) c.deref.ensures.value in
     let few = bits_taken n (taken l m n none).3 in
-    let row = c.deref-2.ensures.value ∙ c.in-ok-bits.ensures in
+    let row = c.deref-2.ensures.value ∙ c.in_ok-bits.ensures in
     let count : length c.deref-2.result.now ≡ n =
     ap (λ (bs : List Bool). length bs) row ∙ (length-map-range_with_len (bit_at (bytes_of (h (text_row c.args.text.now)))) 0 (min n 256) ∙ omega (arith, few.1)) in
-    let lent = c.deref-mut.ensures.value in
+    let lent = c.deref_mut.ensures.value in
     record {
       answer = c.sign.ensures.answer ∙ same_at (λ x k. answer l x k 2) lent count;
-      store = with_items_is self.store c.sign.new.store (c.sign.auto.store ∙ c.deref-mut.ensures.len) ∙ (c.sign.ensures.store ∙ same_at (λ x k. stored l x k 2) lent count);
+      store = with_items_is self.store c.sign.new.store (c.sign.auto.store ∙ c.deref_mut.ensures.len) ∙ (c.sign.ensures.store ∙ same_at (λ x k. stored l x k 2) lent count);
       room = subst (λ (bs : List Bool). RoomSays h s l bs c.sign.result self.room c.sign.new.room) row c.sign.ensures.room;
       accepted = subst (λ (bs : List Bool). GivenAccepted h s l bs c.sign.result c.sign.new.room) row c.sign.ensures.accepted;
       same = (refl, refl);

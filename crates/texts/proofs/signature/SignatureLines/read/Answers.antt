@@ -14,7 +14,7 @@ one c =
 two : (c : goal.In-Some-2) → (j : ℕ) → j < 2 → Readable c.args.self.now j
 two c =
     below_more (Readable c.args.self.now) 1 (one (goal.at.In-Some-2 c).In-Some)
-    (line_some (λ v. map value_of (vec_items v)) (codes "parts") c.deref-2.result.now (vec_items c.args.self.now.parts) c.in-Some-2.parts c.deref-2.ensures.value c.in-Some-2.is c.in-ok-parts.ensures)
+    (line_some (λ v. map value_of (vec_items v)) (codes "parts") c.deref-2.result.now (vec_items c.args.self.now.parts) c.in-Some-2.parts c.deref-2.ensures.value c.in-Some-2.is c.in_ok-parts.ensures)
 
 pub returns-in_default : goal.returns-in_default
 returns-in_default c =
@@ -22,14 +22,14 @@ returns-in_default c =
 
 pub returns-in_default-2 : goal.returns-in_default-2
 returns-in_default-2 c =
-    (1, omega arith, one (goal.at.returns-in_default-2 c).In-Some, line_none (λ v. map value_of (vec_items v)) (codes "parts") c.deref-2.result.now (vec_items c.args.self.now.parts) c.deref-2.ensures.value c.in_default-2.is c.in-ok-parts.ensures, c.refusal-in_default-2.ensures)
+    (1, omega arith, one (goal.at.returns-in_default-2 c).In-Some, line_none (λ v. map value_of (vec_items v)) (codes "parts") c.deref-2.result.now (vec_items c.args.self.now.parts) c.deref-2.ensures.value c.in_default-2.is c.in_ok-parts.ensures, c.refusal-in_default-2.ensures)
 
 pub returns-in_default-3 : goal.returns-in_default-3
 returns-in_default-3 c =
-    (2, omega arith, two (goal.at.returns-in_default-3 c).In-Some-2, line_none (λ v. map value_of (vec_items v)) (codes "others") c.deref-3.result.now (vec_items c.args.self.now.others) c.deref-3.ensures.value c.in_default-3.is c.in-ok-others.ensures, c.refusal-in_default-3.ensures)
+    (2, omega arith, two (goal.at.returns-in_default-3 c).In-Some-2, line_none (λ v. map value_of (vec_items v)) (codes "others") c.deref-3.result.now (vec_items c.args.self.now.others) c.deref-3.ensures.value c.in_default-3.is c.in_ok-others.ensures, c.refusal-in_default-3.ensures)
 
 pub returns-in_default-4 : goal.returns-in_default-4
 returns-in_default-4 c =
     let three = below_more (Readable c.args.self.now) 2 (two (goal.at.returns-in_default-4 c).In-Some-2)
-    (line_some (λ v. map value_of (vec_items v)) (codes "others") c.deref-3.result.now (vec_items c.args.self.now.others) c.in-Some-3.others c.deref-3.ensures.value c.in-Some-3.is c.in-ok-others.ensures) in
-    (3, omega arith, three, line_none (λ v. map value_of (vec_items v)) (codes "path") c.deref-4.result.now (vec_items c.args.self.now.path) c.deref-4.ensures.value c.in_default-4.is c.in-ok-path.ensures, c.refusal-in_default-4.ensures)
+    (line_some (λ v. map value_of (vec_items v)) (codes "others") c.deref-3.result.now (vec_items c.args.self.now.others) c.in-Some-3.others c.deref-3.ensures.value c.in-Some-3.is c.in_ok-others.ensures) in
+    (3, omega arith, three, line_none (λ v. map value_of (vec_items v)) (codes "path") c.deref-4.result.now (vec_items c.args.self.now.path) c.deref-4.ensures.value c.in_default-4.is c.in_ok-path.ensures, c.refusal-in_default-4.ensures)
