@@ -2,8 +2,7 @@
 ghost use Rattle.std.specs.Prelude.{◌≡◌, length, Decides, ◌==◌};
 ghost use Rattle.hash.specs.Value.{worth, value_of};
 ghost use Rattle.hash.specs.Laws.{Bounded, BytesBack};
-ghost use Rattle.std.specs.Cmp.Rules.{comparing};
-ghost use Rattle.std.proofs.Common.{rules, arith};
+ghost use Rattle.std.specs.Cmp.{on_per, partial_equiv_from_equiv, nat_eq_equiv};
 
 use super::Number;
 
@@ -24,7 +23,7 @@ fn same_worth(a: &[u8], b: &[u8]) -> bool
 impl PartialEq for Number {
     ghost eq = { λ x y. (value_of x == value_of y) };
 
-    ghost laws = { first_of (Prim.search (comparing, rules), Prim.grind (arith, Self.row.coded.inj)) };
+    ghost laws = { on_per value_of (partial_equiv_from_equiv nat_eq_equiv) };
 
     fn eq(&self, other: &Number) -> bool {
         same_worth(&self.bytes, &other.bytes)
