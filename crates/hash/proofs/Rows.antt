@@ -1,5 +1,5 @@
 -- The row that a hash has taken in, for any relation between states and rows.
-use Rattle.std.proofs.Common.{ℕ, ◌+◌, List, [], ◌∷◌, ◌++◌}
+use Rattle.std.proofs.Common.{ℕ, List, [], ◌∷◌, ◌++◌}
 use Rattle.std.proofs.lemmas.List.{append_assoc}
 
 -- two numbers, one after the other

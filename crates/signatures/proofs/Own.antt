@@ -2,7 +2,7 @@
 use Rattle.std.proofs.Common.{◌≡◌, ℕ, suc, ◌<◌, Bool, true, false, List, [], ◌∷◌, length, sym, refl, ◌∙◌, arith}
 use Rattle.std.proofs.lemmas.Bool.{eq-eqb, lt-ltb}
 use Rattle.hash.specs.Mix.{Mix}
-use Rattle.keys.specs.Keys.{shown, shown_all, leaf}
+use Rattle.keys.specs.Keys.{shown_all, leaf}
 use Rattle.tree.specs.Tree.{power, node, path_from, up}
 use Rattle.tree.proofs.Walks.{climbs, length-path}
 use Rattle.signatures.specs.Signatures.{each_from, parts_from, others_from, signed, shown_of, leaf_row_of, accepted}

@@ -7,7 +7,6 @@ use Rattle.keys.proofs.Refused.{passed, neither}
 use Rattle.tree.specs.Tree.{power}
 use Rattle.signer.specs.Answers.{refusal, unrefused, unless_refused, answer, stored, key_refusal, store_refusal}
 use Rattle.signer.specs.Store.{next, sound, reserved, step, gives}
-use Rattle.signer.specs.declared.answer.Done.{Done}
 use Rattle.signer.specs.declared.answer.Done.TheVariants.{Key, Cut, Empty}
 
 -- all that a request has passed which is not refused

@@ -11,7 +11,6 @@ use Rattle.signer.specs.Answers.{store_refusal, key_refusal, refusal, unrefused,
 use Rattle.signer.specs.Promises.{KeysRise, OneRow}
 use Rattle.signer.specs.Runs.{Request, Issued, answered, after, issued, given}
 use Rattle.signer.specs.Store.{next, sound, step, gives}
-use Rattle.signer.specs.declared.answer.Done.{Done}
 use Rattle.signer.specs.declared.answer.Done.TheVariants.{Key, Cut, Empty}
 use Rattle.signer.proofs.Counting.{kept}
 

@@ -1,5 +1,5 @@
 -- How the lines that ask for something are written. Assumes nothing: these are definitions.
-use Rattle.std.specs.Prelude.{◌≡◌, ℕ, ◌^◌, ◌<◌, Bool, true, false, List, ◌∷◌, ◌++◌, map, length, Some, vec_items, codes, Option, slice_index}
+use Rattle.std.specs.Prelude.{◌≡◌, ℕ, ◌^◌, ◌<◌, Bool, true, false, List, ◌∷◌, ◌++◌, map, length, Some, vec_items, codes, slice_index}
 use Rattle.std.specs.List.{flat_map}
 use Rattle.texts.specs.Spelling.{hex, decimal_of}
 use Rattle.texts.specs.declared.command.Command.{Command}

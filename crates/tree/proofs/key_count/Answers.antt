@@ -1,5 +1,5 @@
 -- A shift is a power.
-use Rattle.std.proofs.Common.{ℕ, Some, Option, ap}
+use Rattle.std.proofs.Common.{ℕ, Some, ap}
 use Rattle.std.proofs.lemmas.Bool.{lt-ltb}
 use Rattle.tree.proofs.Powers.{shifted}
 use Rattle.tree.proofs.key_count.Goals as goal

@@ -1,5 +1,5 @@
 -- The decimal is all before the first space.
-use Rattle.std.proofs.Common.{◌≡◌, ℕ, ◌-◌, ◌^◌, List, take, sym, refl, arith}
+use Rattle.std.proofs.Common.{◌≡◌, ◌-◌, ◌^◌, take, sym, refl, arith}
 use Rattle.texts.proofs.Cuts.{before_cut, not_both}
 use Rattle.texts.proofs.Lines.{cut_at}
 use Rattle.texts.proofs.command.decimal_before.Goals as goal

@@ -1,5 +1,5 @@
 -- A line that begins with the word agrees with it byte by byte.
-use Rattle.std.proofs.Common.{◌≡◌, ℕ, ◌+◌, List, ◌++◌, length, get_or, take, drop, sym, ap, ◌∙◌, arith}
+use Rattle.std.proofs.Common.{◌≡◌, ℕ, List, ◌++◌, length, get_or, take, drop, sym, ap, ◌∙◌, arith}
 use Rattle.std.proofs.lemmas.List.{get_or_append_left, length-append, take_all, take-append-drop, take_more_same, take_rest}
 use Rattle.texts.proofs.words.after.Goals as goal
 

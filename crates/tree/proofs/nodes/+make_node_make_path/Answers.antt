@@ -1,10 +1,10 @@
 -- One level more.
-use Rattle.std.proofs.Common.{◌≡◌, ℕ, suc, ◌+◌, ◌-◌, ◌*◌, ◌/◌, ◌^◌, ◌<◌, sym, refl, ap, ◌∙◌, add-one, arith, rules}
+use Rattle.std.proofs.Common.{◌≡◌, ℕ, ◌+◌, ◌-◌, ◌*◌, ◌^◌, ◌<◌, refl, ap, ◌∙◌, arith, rules}
 use Rattle.hash.specs.Value.{value_of}
 use Rattle.hash.specs.declared.number.Number.{Number}
 use Rattle.hash.proofs.Fronts.{behind_more}
 use Rattle.keys.specs.Keys.{leaf}
-use Rattle.tree.specs.Tree.{node, beside}
+use Rattle.tree.specs.Tree.{node}
 use Rattle.tree.proofs.Paths.{first_leaf, beside_small, node_up, path_more, node_none, path_none}
 use Rattle.tree.proofs.nodes.+make_node_make_path.Goals as goal
 
