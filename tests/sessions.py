@@ -1,7 +1,7 @@
 #!/usr/bin/env python3
 """Random sessions, answered by the program and by tests/model.py, and compared.
 
-Run by hand, not by the gate, after `rt check`:  python3 tests/sessions.py [how many] [first seed]
+Run by hand, not by the gate, after `rt run` in crates/kachumpe:  python3 tests/sessions.py [how many] [first seed]
 """
 import random
 import subprocess
@@ -20,7 +20,7 @@ def model(data):
 
 
 def program(data):
-    return answers([HERE + "/../target/bin/kachumpe"], data)
+    return answers([HERE + "/../crates/kachumpe/out/kachumpe"], data)
 
 
 def check(count):
