@@ -1,7 +1,7 @@
 // The tree over the keys: its root, and the walk up from a leaf along an authentication path.
 #![tactic(auto)]
 
-ghost use Rattle.std.specs.Prelude.{◌≡◌, ltb, map, if◌then◌else◌, Some, None, nat_lt};
+ghost use Rattle.std.specs.Prelude.{◌≡◌, map, if◌then◌else◌, Some, None, nat_lt};
 ghost use Rattle.hash.specs.Value.{value_of};
 ghost use Rattle.keys.specs.Refusals.{first, levels_refusal, bits_refusal, Unless};
 ghost use Rattle.tree.specs.Tree.{power, node_row, node, fork, up};
@@ -15,7 +15,7 @@ pub use nodes::authentication_path;
 
 // How many keys a tree of so many levels has, where that is below 2^64.
 pub fn key_count(levels: u64) -> Option<u64>
-    ensures { result ≡ (if ltb levels 64 then Some (power levels) else None) }
+    ensures { result ≡ (if nat_lt levels 64 then Some (power levels) else None) }
 {
     if levels < 64 { Some(1 << levels) } else { None }
 }
