@@ -100,12 +100,12 @@ knows h s l n k gs bs g o v acc =
     ]
 
 pub must_know_located_lem : MustKnowLocated
-must_know_located_lem h s l n k m qs bs g o all acc not-given =
+must_know_located_lem h s l n k m qs bs g o all acc not_given =
     knows h s l n k (given m qs) bs g o
     (record {
       one = one_row_lem m qs;
       tree = λ a i. let t = all a i in (t.0, t.1, subst (λ (y : ℕ). a.key < power y) t.0 (given_below m qs a i));
-      not = not-given;
+      not = not_given;
     })
     acc
 
@@ -123,12 +123,12 @@ in_given h s l m xs v y =
     (a.0, a.1, In_left v (parts a.0.key a.0.request.bits) _ (subst (λ (x : ℕ). In x (parts a.0.key a.0.request.bits)) (sym e) i))
 
 pub must_know_lem : MustKnow
-must_know_lem h s l n m xs bs g sd _ _ o e sized acc not-given =
+must_know_lem h s l n m xs bs g sd _ _ o e sized acc not_given =
     let gave : Gave l n g.key bs (gathered l m xs) =
     record {
       one = λ a b i j f. ap (λ (x : Issued). x.request.bits) (one_each (λ (x : Issued). x.key) (gathered l m xs) a b (gathered_rise l m xs sd) i j f);
       tree = λ a i. let w = was_given l m xs a i in (w.1, sized a.key a.request.bits w.0, w.2);
-      not = λ a i k f. not-given (subst₂ (λ (x : ℕ) (y : List Bool). KeyGiven l m xs x y) k f (was_given l m xs a i).0);
+      not = λ a i k f. not_given (subst₂ (λ (x : ℕ) (y : List Bool). KeyGiven l m xs x y) k f (was_given l m xs a i).0);
     } in
     elim (knows h s l n l (gathered l m xs) bs g o gave acc) [
       | inl r ↦ inl (r.0, r.1, r.2, λ y. let w = in_given h s l m xs _ y in r.3 w.0 w.1 w.2)

@@ -60,8 +60,8 @@ looked : (h : Mix) (s : Session) (r : ℕ) (x : List ℕ) (t : SignatureLines) (
 looked h s r x t (Ok y) read e =
     let k = s.signer.levels in
     let bs = bits_asked h s x in
-    let yes-so = look_true (accepted h r k bs (signature_of y)) e in
-    (y, read, λ seed l n root. own_or_located_lem h seed l n k bs (signature_of y) (subst (λ (v : ℕ). accepted h v k bs (signature_of y) ≡ true) root yes-so))
+    let yes_so = look_true (accepted h r k bs (signature_of y)) e in
+    (y, read, λ seed l n root. own_or_located_lem h seed l n k bs (signature_of y) (subst (λ (v : ℕ). accepted h v k bs (signature_of y) ≡ true) root yes_so))
 looked h s r x t (Err f) read e = absurd (no_refusal f e)
 
 -- the bits that are signed are as many as were asked for
@@ -89,8 +89,8 @@ promised h s (Sign x) t o a = λ i e.
     let l = s.signer.levels in
     let m = vec_items s.store in
     let sig : ℕ → List ℕ = λ (k : ℕ). signature_text (signed h (value_of s.signer.seed) l k (bits_asked h s (vec_items x))) in
-    let next-is = (key_answered l m s.bits 2 i e).2 in
-    let text = ap (λ (d : Done). sign_spelled d (signed h (value_of s.signer.seed) l (next m) (bits_asked h s (vec_items x)))) (sym e) ∙ ap sig (sym next-is) in
+    let next_is = (key_answered l m s.bits 2 i e).2 in
+    let text = ap (λ (d : Done). sign_spelled d (signed h (value_of s.signer.seed) l (next m) (bits_asked h s (vec_items x)))) (sym e) ∙ ap sig (sym next_is) in
     (subst (λ (cs : List ℕ). Says o cs) text a, signs h s (vec_items x) i e)
 promised h s (Look r x) t o a = λ e.
     looked h s (value_of r) (vec_items x) t a.0 a.1 (says_same o _ _ a.2 e)

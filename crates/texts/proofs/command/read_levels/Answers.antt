@@ -23,5 +23,5 @@ returns-in_err-seed c =
     let last = c.in_ok-bits.text.now in
     let same = before_same c.args.text.now (codes " bits ") c.in_ok-levels.levels v.levels rest s.0 refl c.in_ok-levels.ensures s.2 in
     let there = subst (λ (t : List ℕ). DecimalBefore t (codes " seed ") v.bits s.1) (sym same) s.3 in
-    let same-2 = before_same rest (codes " seed ") c.in_ok-bits.bits v.bits last s.1 refl c.in_ok-bits.ensures there in
-    not_both (2 ^ 64) last s.1 v.seed c.in_err-seed.ensures same-2 s.4)
+    let same_2 = before_same rest (codes " seed ") c.in_ok-bits.bits v.bits last s.1 refl c.in_ok-bits.ensures there in
+    not_both (2 ^ 64) last s.1 v.seed c.in_err-seed.ensures same_2 s.4)
