@@ -1,10 +1,11 @@
 -- What holds of every number: it is below 2^256, and its bytes are those of its meaning; and that for every natural number there is one with its lowest thirty-two bytes.
-use Rattle.std.proofs.Common.{◌≡◌, ℕ, zero, suc, ◌+◌, ◌*◌, ◌/◌, ◌%◌, ◌^◌, ◌<◌, List, [], ◌∷◌, length, get_or, sym, refl, ap, ◌∙◌, pow-suc, div-one, arith}
+use Rattle.std.proofs.Common.{◌≡◌, ◌↔◌, IsTrue, Bool, true, false, eqb, ℕ, zero, suc, ◌+◌, ◌*◌, ◌/◌, ◌%◌, ◌^◌, ◌<◌, List, [], ◌∷◌, length, get_or, sym, refl, ap, ◌∙◌, pow-suc, div-one, arith}
 use native.Mathlib.Nat.{div-div-eq-div-mul}
 use Rattle.std.specs.Int.Digits.{AllBelowBase, number_from_digits_after}
+use Rattle.std.proofs.lemmas.Bool.{eq-eqb, ne_eqb, false≢true}
 use Rattle.std.proofs.lemmas.Int.Digits.{number_lt}
 use Rattle.hash.specs.Laws.{Bounded, BytesBack}
-use Rattle.hash.specs.Value.{bytes_from, bytes_of}
+use Rattle.hash.specs.Value.{worth, value_of, bytes_from, bytes_of}
 use Rattle.hash.specs.declared.number.Number.{Number}
 
 under_all : (bs : List ℕ) → ((i : ℕ) → get_or bs i 0 < 256) → AllBelowBase 256 bs
@@ -35,6 +36,11 @@ digits_back m (x ∷ xs) u =
 pub bytes_back : BytesBack
 unfolding bytes_of
 bytes_back n = rw n.sized at (digits_back 0 n.bytes (under_all n.bytes n.digits))
+
+-- so the bytes tell whether two numbers mean the same
+pub told_by_bytes : (m n : Number) (r : Bool) → (IsTrue r ↔ (m.bytes ≡ n.bytes)) → r ≡ eqb (value_of m) (value_of n)
+told_by_bytes m n true d = sym (eq-eqb _ _ (ap worth (d.0 refl)))
+told_by_bytes m n false d = sym (ne_eqb _ _ (λ e. false≢true (d.1 (bytes_back m ∙ (ap bytes_of e ∙ sym (bytes_back n))))))
 
 length-bytes : (w v : ℕ) → length (bytes_from w v) ≡ w
 unfolding bytes_from

@@ -1,5 +1,5 @@
 // The hash over rows of numbers, fed number by number so that no row is ever held.
-ghost use Rattle.std.specs.Prelude.{◌≡◌, ℕ, List, [], ◌∷◌, ◌++◌};
+ghost use Rattle.std.specs.Prelude.{◌≡◌, ℕ, List, [], ◌∷◌, ◌++◌, map};
 ghost use Rattle.hash.specs.Tag.{tag};
 ghost use Rattle.hash.specs.Value.{value_of};
 
@@ -20,4 +20,15 @@ pub trait RowHasher: Sized + Drop {
 
     fn finish(self) -> Number
         ensures { (xs : List ℕ) → holds self xs → value_of result ≡ mix xs };
+
+    // The hash of a short row that is at hand.
+    final fn hash(purpose: Purpose, numbers: &[Number]) -> Number
+        ensures { value_of result ≡ mix (tag purpose ∷ map value_of numbers.now) }
+    {
+        let mut hasher = Self::start(purpose);
+        for x in numbers {
+            hasher.absorb(x);
+        }
+        hasher.finish()
+    }
 }

@@ -32,7 +32,7 @@ impl RowHasher for StandIn {
 
     fn start(purpose: Purpose) -> StandIn {
         let mut hasher = StandIn { state: 0 };
-        hasher.absorb(&Number::from_u64(purpose.tag()));
+        hasher.absorb(&Number::from(purpose.tag()));
         hasher
     }
 
@@ -45,6 +45,6 @@ impl RowHasher for StandIn {
     fn finish(self) -> Number {
         let mut bytes = [0; 32];
         bytes[0..4].copy_from_slice(&self.state.to_be_bytes());
-        Number::from_bytes(bytes)
+        Number::from(bytes)
     }
 }

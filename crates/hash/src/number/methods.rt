@@ -4,29 +4,32 @@ ghost use Rattle.hash.specs.Value.{worth, value_of, bytes_of, bit_at};
 
 use super::Number;
 
-impl Number {
-    pub const BITS: usize = 256;
+impl From<[u8; 32]> for Number {
+    ghost from_gives = { λ bytes n. (n.bytes ≡ bytes) × (value_of n ≡ worth bytes) };
 
-    pub fn from_bytes(bytes: [u8; 32]) -> Number
-        ensures bytes { result.bytes ≡ bytes }
-        ensures value { value_of result ≡ worth bytes }
-    {
+    fn from(bytes: [u8; 32]) -> Number {
         Number { bytes }
     }
+}
+
+impl From<u64> for Number {
+    ghost from_gives = { λ x n. value_of n ≡ x };
+
+    fn from(x: u64) -> Number {
+        let mut bytes = [0; 32];
+        bytes[24..32].copy_from_slice(&x.to_be_bytes());
+        Number::from(bytes)
+    }
+}
+
+impl Number {
+    pub const BITS: usize = 256;
 
     pub fn to_bytes(&self) -> [u8; 32]
         ensures bytes { result ≡ self.now.bytes }
         ensures value { result ≡ bytes_of (value_of self.now) }
     {
         self.bytes
-    }
-
-    pub fn from_u64(x: u64) -> Number
-        ensures { value_of result ≡ x }
-    {
-        let mut bytes = [0; 32];
-        bytes[24..32].copy_from_slice(&x.to_be_bytes());
-        Number::from_bytes(bytes)
     }
 
     // The bit at a place from 0, the highest bit of the first byte; past the last one none is set.
