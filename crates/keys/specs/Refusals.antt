@@ -1,5 +1,5 @@
 -- The refusals: the number and the place of each, and when the first two apply that need no store. Assumes nothing: these are definitions.
-use Rattle.std.specs.Prelude.{◌≡◌, ℕ, cond, ◌&&◌, Some, None, Ok, Err, Option, Result, nat_le}
+use Rattle.std.specs.Prelude.{◌≡◌, ℕ, if◌then◌else◌, ◌&&◌, Some, None, Ok, Err, Option, Result, nat_le}
 use Rattle.keys.specs.Limits.{built_levels, max_bits}
 use Rattle.keys.specs.declared.refusal.Refusal.{Refusal}
 use Rattle.keys.specs.declared.refusal.Refusal.TheVariants.{Levels, Store, NextKey, Bits, Line}
@@ -27,11 +27,11 @@ first None next = next
 
 -- more levels than a tree may have
 abbrev pub levels_refusal : ℕ → Option Refusal
-levels_refusal l = cond (nat_le l built_levels) None (Some (Levels l))
+levels_refusal l = if nat_le l built_levels then None else Some (Levels l)
 
 -- no bits, or more than a key may have
 abbrev pub bits_refusal : ℕ → Option Refusal
-bits_refusal n = cond (nat_le 1 n && nat_le n max_bits) None (Some (Bits n))
+bits_refusal n = if nat_le 1 n && nat_le n max_bits then None else Some (Bits n)
 
 -- an answer is that refusal, or else what is made, of which P holds
 abbrev pub Unless : {T : Type 0} → Option Refusal → Result T Refusal → (T → Type 0) → Type 0

@@ -13,25 +13,23 @@ pub struct OneTimeKey {
 }
 
 // What is shown of a secret number.
+#[tactic(auto, unfolding(crate::specs::Keys::shown))]
 pub fn show<H: RowHasher>(secret: &Number) -> Number
     ensures { value_of result ≡ shown H.mix (value_of secret.now) }
 {
-    let mut hasher = H::start(Purpose::Shown);
-    hasher.absorb(secret);
-    hasher.finish()
+    H::hash(Purpose::Shown, &[*secret])
 }
 
 impl OneTimeKey {
     // The secret number for a bit, from 0, being set or not.
+    #[tactic(auto, unfolding(crate::specs::Keys::secret))]
     pub fn secret<H: RowHasher>(&self, bit: u64, set: bool) -> Number
         ensures { value_of result ≡ secret H.mix (value_of self.now.seed) self.now.index bit set }
     {
-        let mut hasher = H::start(Purpose::Secret);
-        hasher.absorb(&self.seed);
-        hasher.absorb(&Number::from_u64(self.index));
-        hasher.absorb(&Number::from_u64(bit));
-        hasher.absorb(&Number::from_u64(u64::from(set)));
-        hasher.finish()
+        let key = Number::from(self.index);
+        let bit = Number::from(bit);
+        let set = Number::from(u64::from(set));
+        H::hash(Purpose::Secret, &[self.seed, key, bit, set])
     }
 
     // What is shown of that secret number.
