@@ -1,5 +1,5 @@
 -- What it tells that a refusal does not apply.
-use Rattle.std.proofs.Common.{◌≡◌, ℕ, ◌≤◌, Bool, true, false, cond, ◌&&◌, leb, IsErrAnd, Some, None, Ok, Err, Option, Result, refl, ◌∙◌, subst₂, arith}
+use Rattle.std.proofs.Common.{◌≡◌, ℕ, ◌≤◌, Bool, true, false, cond, ◌&&◌, leb, IsErrAnd, Some, None, Ok, Err, Option, Result, refl, ◌∙◌, subst, arith}
 use Rattle.std.proofs.lemmas.Bool.{leb-true, and_parts}
 use Rattle.keys.specs.Limits.{built_levels, max_bits}
 use Rattle.keys.specs.Refusals.{first, levels_refusal, bits_refusal, Unless}
@@ -22,9 +22,9 @@ pub neither : (a b : Option Refusal) → None ≡ first a b → (None ≡ a) × 
 neither (Some r) b e = let z : ◌≡◌ {A = ℕ} 0 1 = cc in absurd (omega arith)
 neither None b e = (refl, e)
 
--- what is made where neither of two refusals applies
-pub made : {T : Type 0} (a b : Option Refusal) (x : T) (P : T → Type 0) → None ≡ a → None ≡ b → P x → Unless (first a b) (Ok x) P
-made a b x P e f p = subst₂ (λ (c d : Option Refusal). Unless (first c d) (Ok x) P) e f p
+-- what is made where nothing is refused
+pub made : {T : Type 0} (o : Option Refusal) (x : T) (P : T → Type 0) → None ≡ o → P x → Unless o (Ok x) P
+made o x P e p = subst (λ (q : Option Refusal). Unless q (Ok x) P) e p
 
 -- what is made is made where no refusal applies
 pub unrefused : {T : Type 0} (o : Option Refusal) (x : T) (P : T → Type 0) → Unless o (Ok x) P → (None ≡ o) × P x

@@ -1,5 +1,5 @@
 -- The tree over the keys, and the walk up in it. For every hash h, and for trees of any number of levels. Assumes nothing: these are definitions.
-use Rattle.std.specs.Prelude.{ℕ, zero, suc, ◌+◌, ◌-◌, ◌*◌, ◌/◌, ◌%◌, cond, List, [], ◌∷◌, ◌==◌}
+use Rattle.std.specs.Prelude.{ℕ, zero, suc, ◌+◌, ◌-◌, ◌*◌, ◌/◌, ◌%◌, if◌then◌else◌, List, [], ◌∷◌, ◌==◌}
 use Rattle.hash.specs.Mix.{Mix}
 use Rattle.keys.specs.Keys.{leaf}
 
@@ -19,7 +19,7 @@ node h n s (suc l) x = h (node_row (node h n s l (2 * x)) (node h n s l (2 * x +
 
 -- the other node under the same node
 unfoldable pub beside : ℕ → ℕ
-beside x = cond (x % 2 == 0) (x + 1) (x - 1)
+beside x = if x % 2 == 0 then x + 1 else x - 1
 
 -- the authentication path: for so many levels up, the node beside the one on the way up from node x
 unfoldable pub path_from : Mix → (bits seed level up : ℕ) → ℕ → List ℕ
@@ -28,7 +28,7 @@ path_from h n s l (suc u) x = node h n s l (beside x) ∷ path_from h n s (suc l
 
 -- the row that is hashed above node x, from its value v and the value p beside it: left or right by the lowest bit of x
 unfoldable pub fork : (x v p : ℕ) → List ℕ
-fork x v p = cond (x % 2 == 0) (node_row v p) (node_row p v)
+fork x v p = if x % 2 == 0 then node_row v p else node_row p v
 
 -- the walk up from node x of value v along a path
 unfoldable pub up : Mix → List ℕ → ℕ → ℕ → ℕ

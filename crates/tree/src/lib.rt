@@ -1,17 +1,15 @@
-// The tree over the keys: its root, and the walk up from a leaf along an authentication path.
+// The tree over the keys: how many there are, the walk up from a leaf along an authentication path, and the signer's own tree.
 #![tactic(auto)]
 
 ghost use Rattle.std.specs.Prelude.{◌≡◌, map, if◌then◌else◌, Some, None, nat_lt};
 ghost use Rattle.hash.specs.Value.{value_of};
-ghost use Rattle.keys.specs.Refusals.{first, levels_refusal, bits_refusal, Unless};
-ghost use Rattle.tree.specs.Tree.{power, node_row, node, fork, up};
+ghost use Rattle.tree.specs.Tree.{power, node_row, fork, up};
 
 use hash::{Number, Purpose, RowHasher};
-use keys::{Refusal, Signer};
 
-pub mod nodes;
+pub mod own;
 
-pub use nodes::authentication_path;
+pub use own::Tree;
 
 // How many keys a tree of so many levels has, where that is below 2^64.
 pub fn key_count(levels: u64) -> Option<u64>
@@ -34,10 +32,7 @@ pub fn in_tree(key: u64, levels: u64) -> bool
 fn parent<H: RowHasher>(left: &Number, right: &Number) -> Number
     ensures { value_of result ≡ H.mix (node_row (value_of left.now) (value_of right.now)) }
 {
-    let mut hasher = H::start(Purpose::Node);
-    hasher.absorb(left);
-    hasher.absorb(right);
-    hasher.finish()
+    H::hash(Purpose::Node, &[*left, *right])
 }
 
 // The node above one at a place, from its value and the one beside it: left or right by the place's lowest bit.
@@ -62,17 +57,4 @@ pub fn climb<H: RowHasher>(key: u64, leaf: &Number, path: &[Number]) -> Number
         place /= 2;
     }
     value
-}
-
-// The root of the signer's tree over keys of so many bits. So far a tree has no level, and its root is the leaf of its one key.
-pub fn root<H: RowHasher>(signer: &Signer, bits: u64) -> Result<Number, Refusal>
-    ensures { Unless (first (levels_refusal signer.now.levels) (bits_refusal bits)) result (λ v. value_of v ≡ node H.mix bits (value_of signer.now.seed) signer.now.levels 0) }
-{
-    if let Some(refusal) = Signer::refuse_levels(signer.levels) {
-        return Err(refusal);
-    }
-    if let Some(refusal) = Signer::refuse_bits(bits) {
-        return Err(refusal);
-    }
-    Ok(signer.key(0).leaf::<H>(bits))
 }

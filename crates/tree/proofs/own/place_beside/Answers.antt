@@ -2,7 +2,7 @@
 use Rattle.std.proofs.Common.{refl}
 use Rattle.std.proofs.lemmas.Bool.{eq-eqb, ne_eqb}
 use Rattle.tree.specs.Tree.{beside}
-use Rattle.tree.proofs.nodes.place_beside.Goals as goal
+use Rattle.tree.proofs.own.place_beside.Goals as goal
 
 pub returns-then-place-eq0 : goal.returns-then-place-eq0
 unfolding beside
