@@ -22,10 +22,9 @@ fn reveal<H: RowHasher>(
     ensures rest { (drop (length bits.now) parts.new ≡ drop (length bits.now) parts.old) × (drop (length bits.now) others.new ≡ drop (length bits.now) others.old) }
     ensures others { map value_of (take (length bits.now) others.new) ≡ others_from H.mix (value_of key.now.seed) key.now.index 0 bits.now }
 {
-    for j in 0..bits.len() {
-        let bit = bits[j];
-        parts[j] = key.secret::<H>(j as u64, bit);
-        others[j] = key.shown::<H>(j as u64, !bit);
+    for (j, bit) in bits.iter().enumerate() {
+        parts[j] = key.secret::<H>(j as u64, *bit);
+        others[j] = key.shown::<H>(j as u64, !*bit);
     }
 }
 
@@ -39,12 +38,7 @@ pub fn sign_with<H: RowHasher>(
     ensures answer { Unless (first (levels_refusal signer.now.levels) (bits_refusal (length bits.now))) result (λ _. MadeIn (signed H.mix (value_of signer.now.seed) signer.now.levels key bits.now) room.old room.new) }
     ensures same { OnErr result (room.new ≡ room.old) }
 {
-    if let Some(refusal) = Signer::refuse_levels(signer.levels) {
-        return Err(refusal);
-    }
-    if let Some(refusal) = Signer::refuse_bits(bits.len() as u64) {
-        return Err(refusal);
-    }
+    signer.refuse(bits.len() as u64)?;
     reveal::<H>(&signer.key(key), bits, &mut room.parts, &mut room.others);
     room.key = key;
     room.bits = bits.len();

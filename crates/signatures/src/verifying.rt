@@ -29,9 +29,8 @@ fn leaf_of<H: RowHasher>(bits: &[bool], parts: &[Number], others: &[Number]) -> 
     ensures { value_of result ≡ H.mix (leaf_row_of H.mix bits.now (map value_of parts.now) (map value_of others.now)) }
 {
     let mut hasher = H::start(Purpose::Leaf);
-    for j in 0..bits.len() {
-        let own = show::<H>(&parts[j]);
-        absorb_pair::<H>(&mut hasher, bits[j], &own, &others[j]);
+    for ((bit, part), other) in bits.iter().zip(parts).zip(others) {
+        absorb_pair::<H>(&mut hasher, *bit, &show::<H>(part), other);
     }
     hasher.finish()
 }

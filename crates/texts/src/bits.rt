@@ -12,7 +12,7 @@ pub fn digest<H: RowHasher>(text: &[u8]) -> Number
 {
     let mut hasher = H::start(Purpose::Text);
     for byte in text {
-        hasher.absorb(&Number::from_u64(u64::from(*byte)));
+        hasher.absorb(&Number::from(u64::from(*byte)));
     }
     hasher.finish()
 }

@@ -60,5 +60,5 @@ pub fn read_hex(text: &[u8]) -> Option<Number>
         let low = value_of(text[2 * i + 1])?;
         bytes[i] = high * 16 + low;
     }
-    Some(Number::from_bytes(bytes))
+    Some(Number::from(bytes))
 }

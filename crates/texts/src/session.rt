@@ -44,7 +44,7 @@ impl Session {
         Session {
             signer: Signer {
                 levels: 0,
-                seed: Number::from_u64(0),
+                seed: Number::from(0),
             },
             bits: 0,
             store: Vec::new(heap),
@@ -127,7 +127,7 @@ impl Session {
             Command::Levels(asked) => {
                 self.signer = Signer {
                     levels: asked.levels,
-                    seed: Number::from_u64(asked.seed),
+                    seed: Number::from(asked.seed),
                 };
                 self.bits = asked.bits;
                 Ok(None)

@@ -17,7 +17,7 @@ impl SignatureRoom {
         ensures bits { (map value_of result.parts ≡ replicate max_bits 0) × (map value_of result.others ≡ replicate max_bits 0) }
         ensures levels { map value_of result.path ≡ replicate max_levels 0 }
     {
-        let zero = Number::from_u64(0);
+        let zero = Number::from(0);
         SignatureRoom {
             key: 0,
             bits: 0,
