@@ -22,6 +22,7 @@ fn reveal<H: RowHasher>(
     ensures rest { (drop (length bits.now) parts.new ≡ drop (length bits.now) parts.old) × (drop (length bits.now) others.new ≡ drop (length bits.now) others.old) }
     ensures others { map value_of (take (length bits.now) others.new) ≡ others_from H.mix (value_of key.now.seed) key.now.index 0 bits.now }
 {
+    // By index, since of what a loop writes through `iter_mut` a proof knows the length alone.
     for (j, bit) in bits.iter().enumerate() {
         parts[j] = key.secret::<H>(j as u64, *bit);
         others[j] = key.shown::<H>(j as u64, !*bit);
