@@ -1,5 +1,5 @@
 -- What it tells that a refusal does not apply.
-use Rattle.std.proofs.Common.{◌≡◌, ℕ, ◌≤◌, Bool, true, false, cond, ◌&&◌, leb, IsErrAnd, Some, None, Ok, Err, Option, Result, refl, ◌∙◌, subst, arith}
+use Rattle.std.proofs.Common.{◌≡◌, ℕ, ◌≤◌, Bool, true, false, cond, ◌&&◌, leb, Some, None, Ok, Option, refl, subst}
 use Rattle.std.proofs.lemmas.Bool.{leb-true, and_parts}
 use Rattle.keys.specs.Limits.{built_levels, max_bits}
 use Rattle.keys.specs.Refusals.{first, levels_refusal, bits_refusal, Unless}
@@ -8,7 +8,7 @@ use Rattle.keys.specs.declared.refusal.Refusal.{Refusal}
 -- a test under which nothing is refused has passed
 pub passed : (t : Bool) (r : Refusal) → None ≡ cond t None (Some r) → t ≡ true
 passed true r e = refl
-passed false r e = let z : ◌≡◌ {A = ℕ} 0 1 = cc in absurd (omega arith)
+passed false r e = absurd cc
 
 pub levels_taken : (l : ℕ) → None ≡ levels_refusal l → l ≤ built_levels
 levels_taken l e = leb-true l built_levels (passed (leb l built_levels) _ e)
@@ -19,7 +19,7 @@ bits_taken n e =
 
 -- where the first of two that applies is none, neither does
 pub neither : (a b : Option Refusal) → None ≡ first a b → (None ≡ a) × (None ≡ b)
-neither (Some r) b e = let z : ◌≡◌ {A = ℕ} 0 1 = cc in absurd (omega arith)
+neither (Some r) b e = absurd cc
 neither None b e = (refl, e)
 
 -- what is made where nothing is refused
@@ -30,9 +30,3 @@ made o x P e p = subst (λ (q : Option Refusal). Unless q (Ok x) P) e p
 pub unrefused : {T : Type 0} (o : Option Refusal) (x : T) (P : T → Type 0) → Unless o (Ok x) P → (None ≡ o) × P x
 unrefused (Some r) x P u = absurd u
 unrefused None x P u = (refl, u)
-
--- what is refused inside is refused as a whole
-pub refused : {T U : Type 0} (o : Option Refusal) (e : Refusal) (r : Result U Refusal) (P : T → Type 0) (Q : U → Type 0) → Unless o (Err e) P → IsErrAnd r (λ y. y ≡ e) → Unless o r Q
-refused (Some x) e (Err y) P Q u b = b ∙ u
-refused (Some x) e (Ok y) P Q u b = absurd b
-refused None e r P Q u b = absurd u

@@ -33,6 +33,10 @@ levels_refusal l = if nat_le l built_levels then None else Some (Levels l)
 abbrev pub bits_refusal : ℕ → Option Refusal
 bits_refusal n = if nat_le 1 n && nat_le n max_bits then None else Some (Bits n)
 
+-- the first that applies to what is made of a tree of l levels over keys of n bits
+abbrev pub tree_refusal : (levels bits : ℕ) → Option Refusal
+tree_refusal l n = first (levels_refusal l) (bits_refusal n)
+
 -- an answer is that refusal, or else what is made, of which P holds
 abbrev pub Unless : {T : Type 0} → Option Refusal → Result T Refusal → (T → Type 0) → Type 0
 Unless (Some r) (Ok x) P = ⊥

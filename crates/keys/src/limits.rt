@@ -1,6 +1,6 @@
 // The signer's type: its seed, how many levels its tree has, and the limits.
 ghost use Rattle.std.specs.Prelude.{◌≡◌, ⊤};
-ghost use Rattle.keys.specs.Refusals.{first, levels_refusal, bits_refusal, Unless};
+ghost use Rattle.keys.specs.Refusals.{levels_refusal, bits_refusal, tree_refusal, Unless};
 
 use crate::one_time::OneTimeKey;
 use crate::refusal::Refusal;
@@ -51,7 +51,7 @@ impl Signer {
 
     // The first refusal that applies to what is made of this signer's tree over keys of so many bits.
     pub fn refuse(&self, bits: u64) -> Result<(), Refusal>
-        ensures { Unless (first (levels_refusal self.now.levels) (bits_refusal bits)) result (λ _. ⊤) }
+        ensures { Unless (tree_refusal self.now.levels bits) result (λ _. ⊤) }
     {
         Self::refuse_levels(self.levels)?;
         Self::refuse_bits(bits)

@@ -1,7 +1,7 @@
 // Signing with a given key. It counts nothing: who calls it sees to it that no key signs twice.
 ghost use Rattle.std.specs.Prelude.{◌≡◌, ◌≤◌, map, length, take, drop, OnErr};
 ghost use Rattle.hash.specs.Value.{value_of};
-ghost use Rattle.keys.specs.Refusals.{first, levels_refusal, bits_refusal, Unless};
+ghost use Rattle.keys.specs.Refusals.{tree_refusal, Unless};
 ghost use Rattle.signatures.specs.Signatures.{parts_from, others_from, signed};
 ghost use Rattle.signatures.specs.Views.{MadeIn};
 
@@ -36,7 +36,7 @@ pub fn sign_with<H: RowHasher>(
     bits: &[bool],
     room: &mut SignatureRoom,
 ) -> Result<(), Refusal>
-    ensures answer { Unless (first (levels_refusal signer.now.levels) (bits_refusal (length bits.now))) result (λ _. MadeIn (signed H.mix (value_of signer.now.seed) signer.now.levels key bits.now) room.old room.new) }
+    ensures answer { Unless (tree_refusal signer.now.levels (length bits.now)) result (λ _. MadeIn (signed H.mix (value_of signer.now.seed) signer.now.levels key bits.now) room.old room.new) }
     ensures same { OnErr result (room.new ≡ room.old) }
 {
     signer.refuse(bits.len() as u64)?;

@@ -97,7 +97,7 @@ FirstWord left =
 
 first_from : (left : List ℕ) (ws : List (List ℕ)) (us : List ℕ) → 0 < length left → left ≡ flat_map (λ w. 32 ∷ w) ws → map (decimal_of (2 ^ 32)) ws ≡ map (λ v. Some v) us → FirstWord left
 first_from left [] us h e m = absurd (omega (arith, ap length e))
-first_from left (w ∷ ws) [] h e m = let z : ◌≡◌ {A = ℕ} 0 1 = cc in absurd (omega arith)
+first_from left (w ∷ ws) [] h e m = absurd cc
 first_from left (w ∷ ws) (u ∷ us) h e m =
     let one : decimal_of (2 ^ 32) w ≡ Some u = cc in
     let more : map (decimal_of (2 ^ 32)) ws ≡ map (λ v. Some v) us = cc in (w, u, flat_map (λ x. 32 ∷ x) ws, words_stop ws, e, one, (us, (ws, refl, more)))

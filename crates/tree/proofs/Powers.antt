@@ -28,6 +28,6 @@ above k n h le =
 pub far : (l : ℕ) → None ≡ cond (ltb l 64) (Some (power l)) None → 64 ≤ l
 far l e =
     elim (cases_Bool (ltb l 64)) [
-      | inl t ↦ let f = cond-true (ltb l 64) (Some (power l)) None t in let z : ◌≡◌ {A = ℕ} 0 1 = cc in absurd (omega arith)
+      | inl t ↦ let f = cond-true (ltb l 64) (Some (power l)) None t in absurd cc
       | inr f ↦ ltb-false l 64 f
     ]

@@ -2,7 +2,7 @@
 ghost use Rattle.std.specs.Prelude.{◌≡◌, ◌*◌, ◌/◌, ◌^◌, ◌<◌, ◌≤◌, map, length, take, drop, OnErr};
 ghost use Rattle.hash.specs.Value.{value_of};
 ghost use Rattle.keys.specs.Limits.{max_levels};
-ghost use Rattle.keys.specs.Refusals.{first, levels_refusal, bits_refusal, Unless};
+ghost use Rattle.keys.specs.Refusals.{tree_refusal, Unless};
 ghost use Rattle.tree.specs.Tree.{node, beside, path_from};
 
 use crate::join;
@@ -26,7 +26,7 @@ pub struct Tree {
 impl Tree {
     // The root. So far a tree has no level, and its root is the leaf of its one key.
     pub fn root<H: RowHasher>(&self) -> Result<Number, Refusal>
-        ensures { Unless (first (levels_refusal self.now.signer.levels) (bits_refusal self.now.bits)) result (λ v. value_of v ≡ node H.mix self.now.bits (value_of self.now.signer.seed) self.now.signer.levels 0) }
+        ensures { Unless (tree_refusal self.now.signer.levels self.now.bits) result (λ v. value_of v ≡ node H.mix self.now.bits (value_of self.now.signer.seed) self.now.signer.levels 0) }
     {
         self.signer.refuse(self.bits)?;
         Ok(self.signer.key(0).leaf::<H>(self.bits))
@@ -70,7 +70,7 @@ impl Tree {
         key: u64,
         path: &mut [Number; Signer::MAX_LEVELS],
     ) -> Result<(), Refusal>
-        ensures answer { Unless (first (levels_refusal self.now.signer.levels) (bits_refusal self.now.bits)) result (λ _. (map value_of (take self.now.signer.levels path.new) ≡ path_from H.mix self.now.bits (value_of self.now.signer.seed) 0 self.now.signer.levels key) × (drop self.now.signer.levels path.new ≡ drop self.now.signer.levels path.old)) }
+        ensures answer { Unless (tree_refusal self.now.signer.levels self.now.bits) result (λ _. (map value_of (take self.now.signer.levels path.new) ≡ path_from H.mix self.now.bits (value_of self.now.signer.seed) 0 self.now.signer.levels key) × (drop self.now.signer.levels path.new ≡ drop self.now.signer.levels path.old)) }
         ensures same { OnErr result (path.new ≡ path.old) }
     {
         let signer = &self.signer;
