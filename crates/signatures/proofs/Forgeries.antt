@@ -1,6 +1,6 @@
 -- What is accepted is the signer's own, or a row that is looked at and one of the signer's own hash to the same.
 use Rattle.std.proofs.Common.{◌≡◌, ℕ, zero, suc, ◌+◌, ◌/◌, ◌<◌, Bool, true, false, ◌⊎◌, List, [], ◌∷◌, map, length, sym, refl, ap, ◌∙◌, inl, inr, arith}
-use mathlib.Core.List.{List-discrete, head-eq_of_cons-eq, tail-eq_of_cons-eq, cons≢nil}
+use mathlib.Core.List.{List-discrete}
 use native.Mathlib.Decide.{ℕ_discrete}
 use Rattle.hash.specs.Members.{In}
 use Rattle.hash.specs.Mix.{Mix}
@@ -23,7 +23,7 @@ module _ (h : Mix) (n s l : ℕ) (A : List ℕ → Type 0) where
   unfolding node leaf
   one_down zero k x v p f b a e =
       let g : k ≡ l = omega arith in
-      inr (fork x v p, leaf_row h n s (x / 2), a, own_leaf (x / 2) (rw g at b), λ y. let z = fork_tag x v p 2 _ y in omega arith, e)
+      inr (fork x v p, leaf_row h n s (x / 2), a, own_leaf (x / 2) (rw g at b), λ y. let z = fork_tag x v p 2 _ y in cc, e)
   one_down (suc d) k x v p f b a e =
       elim (same_or h A (OwnRow h n s l) (fork x v p) _ a (own_node d k (x / 2) f b) e) [
         | inl y ↦ let r = fork_same x v p _ _ (y ∙ sym (fork_own h n s d x)) in inl (d, refl, r.0, r.1)
@@ -49,9 +49,9 @@ module _ (h : Mix) (n s l : ℕ) (A : List ℕ → Type 0) where
   unfolding node leaf
   bottom zero k x r f b a e =
       let g : k ≡ l = omega arith in
-      elim (same_or h A (OwnRow h n s l) (2 ∷ r) (leaf_row h n s x) a (own_leaf x (rw g at b)) e) [ inl y ↦ inl (refl, tail-eq_of_cons-eq y) | inr c ↦ inr c ]
+      elim (same_or h A (OwnRow h n s l) (2 ∷ r) (leaf_row h n s x) a (own_leaf x (rw g at b)) e) [ inl y ↦ inl (refl, cc) | inr c ↦ inr c ]
   bottom (suc d) k x r f b a e =
-      inr (2 ∷ r, _, a, own_node d k x f b, λ y. let z : ◌≡◌ {A = ℕ} 2 3 = head-eq_of_cons-eq y in omega arith, e)
+      inr (2 ∷ r, _, a, own_node d k x f b, λ y. cc, e)
 
   -- a secret number, by what is shown of it
   part : (i j : ℕ) (t : Bool) (p : ℕ) → i < power l → j < n → A (shown_row p) → shown h p ≡ shown h (secret h s i j t) →
@@ -66,24 +66,24 @@ module _ (h : Mix) (n s l : ℕ) (A : List ℕ → Type 0) where
       ((o ≡ length bs) × (ps ≡ parts_from h s i j bs) × (os ≡ others_from h s i j bs)) ⊎ CollisionOf h A (OwnRow h n s l)
   unfolding shown_of shown_all each_from
   rows i j [] [] [] zero m f see a b e = inl (refl, refl, refl)
-  rows i j [] [] [] (suc o) m f see a b e = absurd (cons≢nil (sym e))
+  rows i j [] [] [] (suc o) m f see a b e = absurd cc
   rows i j [] [] (q ∷ os) o m f see a b e = absurd (omega arith)
   rows i j [] (p ∷ ps) os o m f see a b e = absurd (omega arith)
   rows i j (t ∷ bs) [] os o m f see a b e = absurd (omega arith)
   rows i j (t ∷ bs) (p ∷ ps) [] o m f see a b e = absurd (omega arith)
-  rows i j (true ∷ bs) (p ∷ ps) (q ∷ os) zero m f see a b e = absurd (cons≢nil e)
-  rows i j (false ∷ bs) (p ∷ ps) (q ∷ os) zero m f see a b e = absurd (cons≢nil e)
+  rows i j (true ∷ bs) (p ∷ ps) (q ∷ os) zero m f see a b e = absurd cc
+  rows i j (false ∷ bs) (p ∷ ps) (q ∷ os) zero m f see a b e = absurd cc
   rows i j (true ∷ bs) (p ∷ ps) (q ∷ os) (suc o) m f see a b e =
-      elim (part i j true p m (omega arith) (see p (inl refl)) (head-eq_of_cons-eq (tail-eq_of_cons-eq e))) [
+      elim (part i j true p m (omega arith) (see p (inl refl)) cc) [
         | inl y ↦
-            elim (rows i (suc j) bs ps os o m (omega arith) (λ r x. see r (inr x)) (omega arith) (omega arith) (tail-eq_of_cons-eq (tail-eq_of_cons-eq e)))
+            elim (rows i (suc j) bs ps os o m (omega arith) (λ r x. see r (inr x)) (omega arith) (omega arith) cc)
             [ inl r ↦ inl (ap suc r.0, cc, cc) | inr c ↦ inr c ]
         | inr c ↦ inr c
       ]
   rows i j (false ∷ bs) (p ∷ ps) (q ∷ os) (suc o) m f see a b e =
-      elim (part i j false p m (omega arith) (see p (inl refl)) (head-eq_of_cons-eq e)) [
+      elim (part i j false p m (omega arith) (see p (inl refl)) cc) [
         | inl y ↦
-            elim (rows i (suc j) bs ps os o m (omega arith) (λ r x. see r (inr x)) (omega arith) (omega arith) (tail-eq_of_cons-eq (tail-eq_of_cons-eq e)))
+            elim (rows i (suc j) bs ps os o m (omega arith) (λ r x. see r (inr x)) (omega arith) (omega arith) cc)
             [ inl r ↦ inl (ap suc r.0, cc, cc) | inr c ↦ inr c ]
         | inr c ↦ inr c
       ]

@@ -1,6 +1,5 @@
 -- What each number of a signature of the signer's own is: a secret number, or the hash of a row of its tree that is not a secret number's.
 use Rattle.std.proofs.Common.{◌≡◌, ℕ, zero, suc, ◌+◌, ◌/◌, ◌<◌, Bool, false, not, ◌⊎◌, List, ◌∷◌, length, get_or, refl, inl, inr, zero-add, arith}
-use mathlib.Core.List.{head-eq_of_cons-eq}
 use Rattle.hash.specs.Members.{In}
 use Rattle.hash.specs.Mix.{Mix}
 use Rattle.hash.proofs.Members.{In-append}
@@ -25,12 +24,12 @@ Other h n s l v = (a : List ℕ) × OwnRow h n s l a × (v ≡ h a) × ((r : Lis
 node_other : (h : Mix) (n s l c k y : ℕ) → c + k ≡ l → y < power k → Other h n s l (node h n s c y)
 unfolding node leaf
 node_other h n s l zero k y f b =
-    let g : k ≡ l = omega arith in (_, own_leaf y (rw g at b), refl, λ r e. let z : ◌≡◌ {A = ℕ} 2 0 = head-eq_of_cons-eq e in omega arith)
-node_other h n s l (suc c) k y f b = (_, own_node c k y f b, refl, λ r e. let z : ◌≡◌ {A = ℕ} 3 0 = head-eq_of_cons-eq e in omega arith)
+    let g : k ≡ l = omega arith in (_, own_leaf y (rw g at b), refl, λ r e. cc)
+node_other h n s l (suc c) k y f b = (_, own_node c k y f b, refl, λ r e. cc)
 
 shown_other : (h : Mix) (n s l i j : ℕ) (t : Bool) → i < power l → j < n → Other h n s l (shown h (secret h s i j t))
 unfolding shown
-shown_other h n s l i j t a b = (_, own_shown i j t a b, refl, λ r e. let z : ◌≡◌ {A = ℕ} 1 0 = head-eq_of_cons-eq e in omega arith)
+shown_other h n s l i j t a b = (_, own_shown i j t a b, refl, λ r e. cc)
 
 pub number_of : (h : Mix) (n s l i : ℕ) (bs : List Bool) (v : ℕ) → i < power l → length bs ≡ n → In v (numbers (signed h s l i bs)) →
     ((j : ℕ) × (j < n) × (v ≡ secret h s i j (get_or bs j false))) ⊎ Other h n s l v
