@@ -15,21 +15,21 @@ use std::io;
 use std::io::{BufRead, BufReader};
 use texts::{Command, Session, SignatureLines, read_command, refusal_text};
 
+// The next line; at the end of the input an empty one.
+fn line_or_empty<R: BufRead>(heap: Global, input: &mut Input<R>) -> io::Result<Vec<u8>> {
+    Ok(input.line(heap)?.unwrap_or_else(|| Vec::new(heap)))
+}
+
 // The next four lines. All four are taken, and one that is not there is empty.
 fn four_lines<R: BufRead>(heap: Global, input: &mut Input<R>) -> io::Result<SignatureLines>
     ensures { IfOk result (λ t. t.first ≡ input.old.next) }
 {
-    let first = input.next;
-    let key = input.line(heap)?.unwrap_or(Vec::new(heap));
-    let parts = input.line(heap)?.unwrap_or(Vec::new(heap));
-    let others = input.line(heap)?.unwrap_or(Vec::new(heap));
-    let path = input.line(heap)?.unwrap_or(Vec::new(heap));
     Ok(SignatureLines {
-        first,
-        key,
-        parts,
-        others,
-        path,
+        first: input.next,
+        key: line_or_empty(heap, input)?,
+        parts: line_or_empty(heap, input)?,
+        others: line_or_empty(heap, input)?,
+        path: line_or_empty(heap, input)?,
     })
 }
 
@@ -59,6 +59,7 @@ fn answer<R: BufRead>(
 fn run<R: BufRead>(rt: &HostRuntime, input: &mut Input<R>) -> anyhow::Result<()> {
     let heap = rt.alloc();
     let mut session = Session::new(heap);
+    // A count, since a loop that waits for input has nothing else that falls.
     for _ in 0..u64::MAX {
         let number = input.next;
         let Some(line) = input.line(heap)? else {
