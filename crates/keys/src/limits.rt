@@ -1,6 +1,6 @@
 // The signer's type: its seed, how many levels its tree has, and the limits.
-ghost use Rattle.std.specs.Prelude.{◌≡◌};
-ghost use Rattle.keys.specs.Refusals.{first, levels_refusal, bits_refusal};
+ghost use Rattle.std.specs.Prelude.{◌≡◌, ⊤};
+ghost use Rattle.keys.specs.Refusals.{first, levels_refusal, bits_refusal, Unless};
 
 use crate::one_time::OneTimeKey;
 use crate::refusal::Refusal;
@@ -31,33 +31,31 @@ impl Signer {
         }
     }
 
-    pub fn refuse_levels(levels: u64) -> Option<Refusal>
-        ensures { result ≡ levels_refusal levels }
+    pub fn refuse_levels(levels: u64) -> Result<(), Refusal>
+        ensures { Unless (levels_refusal levels) result (λ _. ⊤) }
     {
         if levels <= Self::BUILT_LEVELS {
-            None
+            Ok(())
         } else {
-            Some(Refusal::Levels(levels))
+            Err(Refusal::Levels(levels))
         }
     }
 
-    pub fn refuse_bits(bits: u64) -> Option<Refusal>
-        ensures { result ≡ bits_refusal bits }
+    pub fn refuse_bits(bits: u64) -> Result<(), Refusal>
+        ensures { Unless (bits_refusal bits) result (λ _. ⊤) }
     {
         if 1 <= bits && bits <= Self::MAX_BITS as u64 {
-            None
+            Ok(())
         } else {
-            Some(Refusal::Bits(bits))
+            Err(Refusal::Bits(bits))
         }
     }
 
     // The first refusal that applies to what is made of this signer's tree over keys of so many bits.
-    pub fn refuse(&self, bits: u64) -> Option<Refusal>
-        ensures { result ≡ first (levels_refusal self.now.levels) (bits_refusal bits) }
+    pub fn refuse(&self, bits: u64) -> Result<(), Refusal>
+        ensures { Unless (first (levels_refusal self.now.levels) (bits_refusal bits)) result (λ _. ⊤) }
     {
-        if let Some(refusal) = Self::refuse_levels(self.levels) {
-            return Some(refusal);
-        }
+        Self::refuse_levels(self.levels)?;
         Self::refuse_bits(bits)
     }
 }

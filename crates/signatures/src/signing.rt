@@ -39,12 +39,7 @@ pub fn sign_with<H: RowHasher>(
     ensures answer { Unless (first (levels_refusal signer.now.levels) (bits_refusal (length bits.now))) result (λ _. MadeIn (signed H.mix (value_of signer.now.seed) signer.now.levels key bits.now) room.old room.new) }
     ensures same { OnErr result (room.new ≡ room.old) }
 {
-    if let Some(refusal) = Signer::refuse_levels(signer.levels) {
-        return Err(refusal);
-    }
-    if let Some(refusal) = Signer::refuse_bits(bits.len() as u64) {
-        return Err(refusal);
-    }
+    signer.refuse(bits.len() as u64)?;
     reveal::<H>(&signer.key(key), bits, &mut room.parts, &mut room.others);
     room.key = key;
     room.bits = bits.len();

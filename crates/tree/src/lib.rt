@@ -68,11 +68,6 @@ pub fn climb<H: RowHasher>(key: u64, leaf: &Number, path: &[Number]) -> Number
 pub fn root<H: RowHasher>(signer: &Signer, bits: u64) -> Result<Number, Refusal>
     ensures { Unless (first (levels_refusal signer.now.levels) (bits_refusal bits)) result (λ v. value_of v ≡ node H.mix bits (value_of signer.now.seed) signer.now.levels 0) }
 {
-    if let Some(refusal) = Signer::refuse_levels(signer.levels) {
-        return Err(refusal);
-    }
-    if let Some(refusal) = Signer::refuse_bits(bits) {
-        return Err(refusal);
-    }
+    signer.refuse(bits)?;
     Ok(signer.key(0).leaf::<H>(bits))
 }

@@ -70,9 +70,7 @@ pub fn authentication_path<H: RowHasher>(
     ensures answer { Unless (first (levels_refusal signer.now.levels) (bits_refusal bits)) result (λ _. (map value_of (take signer.now.levels path.new) ≡ path_from H.mix bits (value_of signer.now.seed) 0 signer.now.levels key) × (drop signer.now.levels path.new ≡ drop signer.now.levels path.old)) }
     ensures same { OnErr result (path.new ≡ path.old) }
 {
-    if let Some(refusal) = signer.refuse(bits) {
-        return Err(refusal);
-    }
+    signer.refuse(bits)?;
     make_path::<H>(signer, bits, signer.levels, key, path);
     Ok(())
 }
