@@ -63,6 +63,7 @@ pub fn sign<H: RowHasher>(
 }
 
 // Whether a signature is accepted, for a row of bits and a root of so many levels. If it is, then of every signer whose root this is it is that signer's own, or two rows are shown that hash to the same.
+#[tactic(auto, using(signatures::proofs::Forgeries::own_or_located_lem))]
 pub fn look<H: RowHasher>(
     root: &Number,
     levels: u64,

@@ -1,5 +1,5 @@
 -- What is made with the key that was reserved is the signature, and it is accepted.
-use Rattle.std.proofs.Common.{◌≡◌, ◌-◌, ◌<◌, length, ap, sym, ◌∙◌, arith}
+use Rattle.std.proofs.Common.{◌-◌, ◌<◌, length, ap, sym, ◌∙◌, arith}
 use Rattle.std.proofs.lemmas.Bool.{ltb-true}
 use Rattle.hash.specs.Value.{value_of}
 use Rattle.keys.specs.Refusals.{first, levels_refusal, bits_refusal}
