@@ -1,10 +1,10 @@
 -- Runs of requests: the keys that are given rise.
 use Rattle.std.proofs.Common.{◌≡◌, ℕ, ◌+◌, ◌<◌, ◌≤◌, true, false, leb, ◌⊎◌, List, [], ◌∷◌, ◌++◌, map, length, Some, None, Option, sym, refl, ap, subst, inl, inr, arith}
 use Rattle.std.proofs.lemmas.Bool.Decides.{nat_tests}
-use Rattle.keys.specs.Limits.{built_levels}
 use Rattle.std.proofs.lemmas.Bool.{cases_Bool}
 use Rattle.hash.specs.Members.{In, Rising}
 use Rattle.hash.proofs.Members.{In-append, from_map, one_each}
+use Rattle.keys.specs.Limits.{built_levels}
 use Rattle.keys.specs.declared.refusal.Refusal.{Refusal}
 use Rattle.tree.specs.Tree.{power}
 use Rattle.signer.specs.Answers.{refusal, unrefused, unless_refused}
@@ -108,10 +108,7 @@ unsound_refused l n m s =
 unsound_none : (m : List ℕ) (qs : List Request) → sound m ≡ false → given m qs ≡ []
 unsound_none m [] s = refl
 unsound_none m (q ∷ qs) s =
-    let r = unsound_refused q.levels (length q.bits) m s in
-    let a : issued q (answered m q) ≡ [] = ap (λ (o : Option Refusal). issued q (unrefused q.levels m q.lasts o)) r.1 in
-    let t : after m q ≡ m = ap (λ (o : Option Refusal). unless_refused o m (step q.levels m q.lasts)) r.1 in
-    rw (a, t) (unsound_none m qs s)
+    rw (unsound_refused q.levels (length q.bits) m s).1 (unsound_none m qs s)
 
 pub keys_rise_lem : KeysRise
 keys_rise_lem m qs =

@@ -21,10 +21,10 @@ fn admit(levels: u64, store: &[u32], bits: u64) -> Result<Store, Refusal>
     ensures { Unless (refusal levels store.now bits) result (λ s. s.cells ≡ store.now) }
 {
     Signer::refuse_levels(levels)?;
-    let read = Store::try_from(store)?;
-    read.refuse_key(levels)?;
+    let store = Store::try_from(store)?;
+    store.refuse_key(levels)?;
     Signer::refuse_bits(bits)?;
-    Ok(read)
+    Ok(store)
 }
 
 // The first refusal that applies to signing so many bits, if one does.
@@ -35,7 +35,7 @@ pub fn refuse(levels: u64, store: &[u32], bits: u64) -> Result<(), Refusal>
     Ok(())
 }
 
-// Signs a row of bits with the next key, in the room. The store is lent: the key is reserved here, and its count is written before anything of the signature exists. The key that is signed with is read back from the store, the one below the count: signed with before the count is written, it would be another.
+// Signs a row of bits with the next key, in the room. The store is lent: the key is reserved here, and its count is written before anything of the signature exists.
 pub fn sign<H: RowHasher>(
     signer: &Signer,
     bits: &[bool],
@@ -55,6 +55,7 @@ pub fn sign<H: RowHasher>(
         return Done::Empty;
     }
     let counted = read.reserve(store);
+    // Read back from the store, the key is the one below the count: made before the count is written, the signature would be by another key.
     let key = u64::from(counted.next_key()) - 1;
     match sign_with::<H>(signer, key, bits, room) {
         Ok(()) => Done::Key(key),

@@ -83,11 +83,12 @@ impl Store {
         }
     }
 
-    // Reserves the next key in the lent store that this was read from: writes one more than it in the slot that is written next, first the count, then its check. The store is given as it then stands there.
+    // Reserves the next key in the lent store that this was read from: writes one more than it in the slot that is written next, first the count, then its check. What is given is read back from there.
     pub(crate) fn reserve(&self, lent: &mut [u32]) -> Store
         requires read { lent.old ≡ self.now.cells }
         requires small { next self.now.cells < 4294967295 }
         ensures lent { lent.new ≡ reserved 2 lent.old }
+        ensures read_back { result.cells ≡ lent.new }
         ensures counted { next result.cells ≡ next self.now.cells + 1 }
     {
         let count = self.next_key() + 1;
