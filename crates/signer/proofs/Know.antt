@@ -29,10 +29,7 @@ differ (true ∷ a) (false ∷ b) k n = (0, omega arith, true≢false)
 differ (false ∷ a) (true ∷ b) k n = (0, omega arith, false≢true)
 
 bit_same : (t u : Bool) → bit t ≡ bit u → t ≡ u
-bit_same true true e = refl
-bit_same true false e = absurd (omega arith)
-bit_same false true e = absurd (omega arith)
-bit_same false false e = refl
+bit_same t u e = grind arith
 
 -- all that was given, in whatever run: one row of bits for each key, all for one tree, and none of it for these bits by the key i
 pub record Gave (l n i : ℕ) (bs : List Bool) (gs : List Issued) : Type 0 where

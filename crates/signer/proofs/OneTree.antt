@@ -1,6 +1,6 @@
 -- Runs of requests to one tree, as runs that give keys.
-use Rattle.std.proofs.Common.{◌≡◌, ℕ, ◌+◌, ◌<◌, Bool, true, false, cond, ltb, ◌⊎◌, List, [], ◌∷◌, map, sym, refl, ap, ◌∙◌, subst, inl, inr}
-use Rattle.std.proofs.lemmas.Bool.{and_parts, ltb-true, true≢false}
+use Rattle.std.proofs.Common.{◌≡◌, ℕ, ◌+◌, ◌<◌, Bool, true, false, cond, ltb, ◌⊎◌, List, [], ◌∷◌, map, sym, refl, ap, ◌∙◌, subst, inl, inr, arith}
+use Rattle.std.proofs.lemmas.Bool.{and_parts, ltb-true}
 use Rattle.hash.specs.Members.{In, Rising}
 use Rattle.hash.proofs.Members.{In-append, In_left, In_right, one_each}
 use Rattle.tree.specs.Tree.{power}
@@ -40,24 +40,18 @@ pub gathered_rise : (l : ℕ) (m : List ℕ) (xs : List Asked) → sound m ≡ t
 gathered_rise l m xs s = rising (issued_of l) (after_of l) (asked_steps l) m xs s
 
 -- a key that is given is gathered, and what is gathered was given
-in_if : (t : Bool) (k : ℕ) (q : Request) → t ≡ true → In (record { key = k; request = q }) (issued_if t k q)
-in_if true k q e = inl refl
-in_if false k q e = absurd (true≢false (sym e))
-
 pub gathers : (l : ℕ) (m : List ℕ) (xs : List Asked) (i : ℕ) (b : List Bool) → KeyGiven l m xs i b →
     (a : Issued) × In a (gathered l m xs) × (a.key ≡ i) × (a.request.bits ≡ b)
 unfolding run
 gathers l m [] i b g = absurd g
 gathers l m (sign c w ∷ xs) i b (inl g) =
     let q : Request = record { levels = l; bits = c; lasts = w } in
-    (record { key = next m; request = q }, In_left _ (issued_if (gives l m w) (next m) q) _ (in_if (gives l m w) (next m) q g.0), g.1, g.2)
+    (record { key = next m; request = q }, In_left _ (issued_if (gives l m w) (next m) q) _ (rw g.0 (inl refl)), g.1, g.2)
 gathers l m (sign c w ∷ xs) i b (inr g) =
     let r = gathers l (step l m w) xs i b g in (r.0, In_right _ (issued_if (gives l m w) (next m) (request_of l (sign c w))) _ r.1, r.2, r.3)
 
 from_if : (t : Bool) (k : ℕ) (q : Request) (a : Issued) → In a (issued_if t k q) → (t ≡ true) × (a ≡ record { key = k; request = q })
-from_if true k q a (inl e) = (refl, e)
-from_if true k q a (inr x) = absurd x
-from_if false k q a x = absurd x
+from_if t k q a i = grind arith
 
 pub was_given : (l : ℕ) (m : List ℕ) (xs : List Asked) (a : Issued) → In a (gathered l m xs) →
     KeyGiven l m xs a.key a.request.bits × (a.request.levels ≡ l) × (a.key < power l)

@@ -1,28 +1,22 @@
 -- Runs of requests: the keys that are given rise.
-use Rattle.std.proofs.Common.{◌≡◌, ℕ, ◌+◌, ◌<◌, ◌≤◌, Bool, true, false, cond, eqb, ltb, ◌⊎◌, List, [], ◌∷◌, ◌++◌, map, length, Some, None, Option, sym, refl, ap, ◌∙◌, subst, inl, inr, arith}
-use Rattle.std.proofs.lemmas.Bool.{and_parts, cases_Bool, cond-true, cond-false, leb-true, ltb-true, true≢false}
+use Rattle.std.proofs.Common.{◌≡◌, ℕ, ◌+◌, ◌<◌, ◌≤◌, true, false, leb, ◌⊎◌, List, [], ◌∷◌, ◌++◌, map, length, Some, None, Option, sym, refl, ap, subst, inl, inr, arith}
+use Rattle.std.proofs.lemmas.Bool.Decides.{nat_tests}
+use Rattle.std.proofs.lemmas.Bool.{cases_Bool}
 use Rattle.hash.specs.Members.{In, Rising}
 use Rattle.hash.proofs.Members.{In-append, from_map, one_each}
-use Rattle.keys.specs.Refusals.{first, levels_refusal, bits_refusal}
+use Rattle.keys.specs.Limits.{built_levels}
 use Rattle.keys.specs.declared.refusal.Refusal.{Refusal}
-use Rattle.keys.specs.declared.refusal.Refusal.TheVariants.{Store}
 use Rattle.tree.specs.Tree.{power}
-use Rattle.signer.specs.Answers.{store_refusal, key_refusal, refusal, unrefused, unless_refused}
+use Rattle.signer.specs.Answers.{refusal, unrefused, unless_refused}
 use Rattle.signer.specs.Promises.{KeysRise, OneRow}
 use Rattle.signer.specs.Runs.{Request, Issued, answered, after, issued, given}
 use Rattle.signer.specs.Store.{next, sound, step, gives}
-use Rattle.signer.specs.declared.answer.Done.TheVariants.{Key, Cut, Empty}
 use Rattle.signer.proofs.Counting.{kept}
 
 -- a step keeps a store sound, its next key never falls, and it is one more where the key was given
 pub step_kept : (l : ℕ) (m : List ℕ) (w : ℕ) → sound m ≡ true →
     (sound (step l m w) ≡ true) × (next m ≤ next (step l m w)) × (gives l m w ≡ true → next (step l m w) ≡ next m + 1)
-step_kept l m w s =
-    let k = kept w m s in
-    elim (cases_Bool (ltb (next m) (power l))) [
-      | inl t ↦ rw t (k.0, k.1, λ g. k.3 (leb-true 2 w g))
-      | inr f ↦ rw f (s, omega arith, λ g. absurd (true≢false (sym g)))
-    ]
+step_kept l m w s = grind (arith, nat_tests, kept w m s)
 
 -- what one request gives, at most one key, and the store after it
 pub record Steps {Q : Type 0} (g : List ℕ → Q → List Issued) (t : List ℕ → Q → List ℕ) : Type 0 where
@@ -83,21 +77,14 @@ unfolding run request_issued
 given_is m [] = refl
 given_is m (q ∷ qs) = ap (λ (r : List Issued). issued q (answered m q) ++ r) (given_is (after m q) qs)
 
--- the answer where nothing is refused, by whether the key is given
-unrefused_issued : (a p : Bool) (k : ℕ) (q : Request) → issued q (cond a (Key k) (cond p Cut Empty)) ≡ cond a (record { key = k; request = q } ∷ []) []
-unrefused_issued true p k q = refl
-unrefused_issued false true k q = refl
-unrefused_issued false false k q = refl
-
 -- one request at a sound store, by its first refusal
 request_one : (l w : ℕ) (m : List ℕ) (q : Request) (o : Option Refusal) → sound m ≡ true →
     (issued q (unrefused l m w o) ≡ []) ⊎ ((a : Issued) × (issued q (unrefused l m w o) ≡ a ∷ []) × (a.key ≡ next m) × (next (unless_refused o m (step l m w)) ≡ next m + 1))
 request_one l w m q (Some r) s = inl refl
 request_one l w m q None s =
-    let e = unrefused_issued (gives l m w) (ltb (next m) (power l)) (next m) q in
     elim (cases_Bool (gives l m w)) [
-      | inl t ↦ inr (record { key = next m; request = q }, e ∙ cond-true (gives l m w) _ _ t, refl, (step_kept l m w s).2 t)
-      | inr f ↦ inl (e ∙ cond-false (gives l m w) _ _ f)
+      | inl t ↦ rw t (inr (record { key = next m; request = q }, refl, refl, (step_kept l m w s).2 t))
+      | inr f ↦ rw f (inl (grind arith))
     ]
 
 request_stays : (l w : ℕ) (m : List ℕ) (o : Option Refusal) → sound m ≡ true →
@@ -114,25 +101,14 @@ request_steps =
     }
 
 -- from a store that is not sound nothing is given
-first_some : (o : Option Refusal) (r : Refusal) (p : Option Refusal) → (e : Refusal) × (first o (first (Some r) p) ≡ Some e)
-first_some (Some x) r p = (x, refl)
-first_some None r p = (r, refl)
-
 unsound_refused : (l n : ℕ) (m : List ℕ) → sound m ≡ false → (e : Refusal) × (refusal l m n ≡ Some e)
 unsound_refused l n m s =
-    let r = Store (cond (eqb (length m) 4) 0 (length m)) in
-    let rest = first (key_refusal (next m) l) (bits_refusal n) in
-    let f = first_some (levels_refusal l) r rest in
-    let e : store_refusal m ≡ Some r = cond-false (sound m) None (Some r) s in
-    (f.0, ap (λ (o : Option Refusal). first (levels_refusal l) (first o rest)) e ∙ f.1)
+    elim (cases_Bool (leb l built_levels)) [ inl t ↦ rw (t, s) (_, refl) | inr f ↦ rw f (_, refl) ]
 
 unsound_none : (m : List ℕ) (qs : List Request) → sound m ≡ false → given m qs ≡ []
 unsound_none m [] s = refl
 unsound_none m (q ∷ qs) s =
-    let r = unsound_refused q.levels (length q.bits) m s in
-    let a : issued q (answered m q) ≡ [] = ap (λ (o : Option Refusal). issued q (unrefused q.levels m q.lasts o)) r.1 in
-    let t : after m q ≡ m = ap (λ (o : Option Refusal). unless_refused o m (step q.levels m q.lasts)) r.1 in
-    rw (a, t) (unsound_none m qs s)
+    rw (unsound_refused q.levels (length q.bits) m s).1 (unsound_none m qs s)
 
 pub keys_rise_lem : KeysRise
 keys_rise_lem m qs =
@@ -145,22 +121,15 @@ pub one_row_lem : OneRow
 one_row_lem m qs a b i j e = ap (λ (x : Issued). x.request.bits) (one_each (λ (x : Issued). x.key) (given m qs) a b (keys_rise_lem m qs) i j e)
 
 -- a key that is given is one of the tree's
-unrefused_below : (a p : Bool) (k e : ℕ) (q : Request) (x : Issued) → In x (issued q (cond a (Key k) (cond p Cut Empty))) → (a ≡ true → k < e) → (x.key < e) × (x.request ≡ q)
-unrefused_below true p k e q x (inl i) h = (subst (λ (y : ℕ). y < e) (sym (ap (λ (y : Issued). y.key) i)) (h refl), ap (λ (y : Issued). y.request) i)
-unrefused_below true p k e q x (inr i) h = absurd i
-unrefused_below false true k e q x i h = absurd i
-unrefused_below false false k e q x i h = absurd i
-
-refused_below : (l w : ℕ) (m : List ℕ) (q : Request) (o : Option Refusal) (x : Issued) → In x (issued q (unrefused l m w o)) → (x.key < power l) × (x.request ≡ q)
-refused_below l w m q (Some r) x i = absurd i
-refused_below l w m q None x i =
-    unrefused_below (gives l m w) (ltb (next m) (power l)) (next m) (power l) q x i (λ t. ltb-true _ _ (and_parts (ltb (next m) (power l)) _ t).0)
+unrefused_below : (l w : ℕ) (m : List ℕ) (q : Request) (o : Option Refusal) (x : Issued) → In x (issued q (unrefused l m w o)) → (x.key < power l) × (x.request ≡ q)
+unrefused_below l w m q (Some r) x i = absurd i
+unrefused_below l w m q None x i = grind (arith, nat_tests)
 
 pub given_below : (m : List ℕ) (qs : List Request) (a : Issued) → In a (given m qs) → a.key < power a.request.levels
 unfolding request_issued
 given_below m qs a i =
     run_all request_issued after (λ (x : Issued). x.key < power x.request.levels)
     (λ k q x j.
-    let b = refused_below q.levels q.lasts k q (refusal q.levels k (length q.bits)) x j in
+    let b = unrefused_below q.levels q.lasts k q (refusal q.levels k (length q.bits)) x j in
     subst (λ (y : Request). x.key < power y.levels) (sym b.1) b.0)
     m qs a (rw (given_is m qs) at i)

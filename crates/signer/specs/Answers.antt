@@ -1,5 +1,5 @@
 -- What the entry that signs answers, and what it leaves. Assumes nothing: these are definitions.
-use Rattle.std.specs.Prelude.{◌≡◌, ℕ, Bool, true, cond, List, [], ◌∷◌, length, Some, None, Option, ◌==◌, nat_le, nat_lt}
+use Rattle.std.specs.Prelude.{◌≡◌, ℕ, Bool, true, if◌then◌else◌, List, [], ◌∷◌, length, Some, None, Option, ◌==◌, nat_le, nat_lt}
 use Rattle.hash.specs.Mix.{Mix}
 use Rattle.keys.specs.Refusals.{refusal_number, refusal_place, first, levels_refusal, bits_refusal}
 use Rattle.keys.specs.declared.refusal.Refusal.{Refusal}
@@ -27,11 +27,11 @@ done_values (Refused r) = refusal_number r ∷ refusal_place r ∷ []
 
 -- a store that is not sound: its length where that is not four, or else 0
 abbrev pub store_refusal : List ℕ → Option Refusal
-store_refusal m = cond (sound m) None (Some (Store (cond (length m == 4) 0 (length m))))
+store_refusal m = if sound m then None else Some (Store (if length m == 4 then 0 else length m))
 
 -- a key above the number of keys
 abbrev pub key_refusal : ℕ → (levels : ℕ) → Option Refusal
-key_refusal k l = cond (nat_le k (power l)) None (Some (NextKey k))
+key_refusal k l = if nat_le k (power l) then None else Some (NextKey k)
 
 -- the first refusal that applies to signing n bits with a tree of l levels from the store m
 abbrev pub refusal : (levels : ℕ) → List ℕ → (bits : ℕ) → Option Refusal
@@ -40,7 +40,7 @@ refusal l m n = first (levels_refusal l) (first (store_refusal m) (first (key_re
 -- the answer, with power for w writes
 abbrev pub unrefused : (levels : ℕ) → List ℕ → (writes : ℕ) → Option Refusal → Done
 unrefused l m w (Some r) = Refused r
-unrefused l m w None = cond (gives l m w) (Key (next m)) (cond (nat_lt (next m) (power l)) Cut Empty)
+unrefused l m w None = if gives l m w then Key (next m) else if nat_lt (next m) (power l) then Cut else Empty
 
 abbrev pub answer : (levels : ℕ) → List ℕ → (bits writes : ℕ) → Done
 answer l m n w = unrefused l m w (refusal l m n)

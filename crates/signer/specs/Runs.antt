@@ -1,5 +1,5 @@
 -- Whole runs: any requests to sign, one after the other, from any store. Assumes nothing: these are definitions.
-use Rattle.std.specs.Prelude.{ℕ, Bool, cond, List, [], ◌∷◌, ◌++◌, map, length, ◌==◌}
+use Rattle.std.specs.Prelude.{ℕ, Bool, if◌then◌else◌, List, [], ◌∷◌, ◌++◌, map, length, ◌==◌}
 use Rattle.hash.specs.Mix.{Mix}
 use Rattle.signatures.specs.Signatures.{Signature, signed}
 use Rattle.signer.specs.Answers.{done_number, done_values, answer, stored}
@@ -20,7 +20,7 @@ after m q = stored q.levels m (length q.bits) q.lasts
 
 -- the key in an answer that gives one
 abbrev pub keys_in : Done → List ℕ
-keys_in d = cond (done_number d == 0) (done_values d) []
+keys_in d = if done_number d == 0 then done_values d else []
 
 -- a key that was given, and the request that it was given for
 pub record Issued : Type 0 where

@@ -1,5 +1,5 @@
 -- The store: two slots of two numbers, a count and a check of it. Each number is written at once, and power may fail before a write. Assumes nothing: these are definitions.
-use Rattle.std.specs.Prelude.{ℕ, zero, suc, ◌+◌, ◌-◌, ◌*◌, ◌%◌, Bool, cond, ◌&&◌, ◌||◌, List, length, ◌==◌, nat_le, nat_lt, slice_index, slice_set}
+use Rattle.std.specs.Prelude.{ℕ, zero, suc, ◌+◌, ◌-◌, ◌*◌, ◌%◌, Bool, if◌then◌else◌, not, ◌&&◌, ◌||◌, List, length, ◌==◌, nat_le, nat_lt, slice_index, slice_set}
 use Rattle.tree.specs.Tree.{power}
 
 -- the check of a count
@@ -12,11 +12,11 @@ slot_ok m k = slice_index m (2 * k + 1) == check (slice_index m (2 * k))
 
 -- the count in a slot that is right
 abbrev pub count_in : List ℕ → ℕ → ℕ
-count_in m k = cond (slot_ok m k) (slice_index m (2 * k)) 0
+count_in m k = if slot_ok m k then slice_index m (2 * k) else 0
 
 -- the slot that is written next: the first that is not right, or else the one with the smaller count, the first if they are equal
 abbrev pub written : List ℕ → ℕ
-written m = cond (slot_ok m 0) (cond (slot_ok m 1) (cond (nat_le (count_in m 0) (count_in m 1)) 0 1) 1) 0
+written m = if not (slot_ok m 0) then 0 else if not (slot_ok m 1) then 1 else if nat_le (count_in m 0) (count_in m 1) then 0 else 1
 
 -- the next key: the count in the other slot
 abbrev pub next : List ℕ → ℕ
@@ -34,7 +34,7 @@ sound m = length m == 4 && (slot_ok m 0 || slot_ok m 1)
 
 -- the store after a key was asked for, from a tree of so many levels, with power for so many writes: nothing is written where all keys were given
 abbrev pub step : (levels : ℕ) → List ℕ → ℕ → List ℕ
-step l m n = cond (nat_lt (next m) (power l)) (reserved n m) m
+step l m n = if nat_lt (next m) (power l) then reserved n m else m
 
 -- whether the key is given: there is one, and both numbers are written
 abbrev pub gives : (levels : ℕ) → List ℕ → ℕ → Bool

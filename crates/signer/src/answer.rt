@@ -1,7 +1,7 @@
 // What the entry that signs answers.
 use keys::Refusal;
 
-#[derive(Clone, Copy)]
+#[derive(Clone, Copy, Debug, PartialEq, Eq)]
 pub enum Done {
     // A key is given: its number. The room holds the signature.
     Key(u64),

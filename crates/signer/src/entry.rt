@@ -1,98 +1,38 @@
 // The entry that signs, which reserves the key itself, and the entry that looks.
-ghost use Rattle.std.specs.Prelude.{◌≡◌, ℕ, ◌-◌, ◌<◌, ◌≤◌, true, ◌⊎◌, length, None};
+ghost use Rattle.std.specs.Prelude.{◌≡◌, ℕ, true, ⊤, ◌⊎◌, length};
 ghost use Rattle.hash.specs.Value.{value_of};
-ghost use Rattle.keys.specs.Refusals.{levels_refusal, bits_refusal};
+ghost use Rattle.keys.specs.Refusals.{Unless};
 ghost use Rattle.tree.specs.Tree.{node};
 ghost use Rattle.signatures.specs.Rows.{LocatedCollision};
-ghost use Rattle.signatures.specs.Signatures.{signed, accepted};
-ghost use Rattle.signatures.specs.Views.{viewed, MadeIn};
-ghost use Rattle.signer.specs.Answers.{key_refusal, refusal, answer, stored, RoomSays, GivenAccepted};
+ghost use Rattle.signatures.specs.Signatures.{accepted};
+ghost use Rattle.signatures.specs.Views.{viewed};
+ghost use Rattle.signer.specs.Answers.{refusal, answer, stored, RoomSays, GivenAccepted};
 ghost use Rattle.signer.specs.Promises.{Own};
-ghost use Rattle.signer.specs.Store.{next, sound, reserved};
-ghost use Rattle.signer.specs.declared.answer.Done.TheVariants.{Key};
 
 use crate::answer::Done;
-use crate::store::{is_sound, next_key, reserve};
+use crate::store::Store;
 use hash::{Number, RowHasher};
 use keys::{Refusal, Signer};
 use signatures::{SignatureRoom, SignatureView, sign_with, verify};
-use tree::{in_tree, key_count};
+use tree::in_tree;
 
-// A key that is above the number of keys is refused; the one that equals it is not, since all keys were given then.
-fn refuse_key(key: u64, levels: u64) -> Option<Refusal>
-    ensures { result ≡ key_refusal key levels }
+// The store that a request may be signed from, or the first refusal that applies to signing so many bits.
+fn admit(levels: u64, store: &[u32], bits: u64) -> Result<Store, Refusal>
+    ensures { Unless (refusal levels store.now bits) result (λ s. s.cells ≡ store.now) }
 {
-    match key_count(levels) {
-        Some(count) => {
-            if key <= count {
-                None
-            } else {
-                Some(Refusal::NextKey(key))
-            }
-        }
-        None => None,
-    }
+    Signer::refuse_levels(levels)?;
+    let store = Store::try_from(store)?;
+    store.refuse_key(levels)?;
+    Signer::refuse_bits(bits)?;
+    Ok(store)
 }
 
 // The first refusal that applies to signing so many bits, if one does.
-pub fn refused(levels: u64, store: &[u32], bits: u64) -> Option<Refusal>
-    ensures { result ≡ refusal levels store.now bits }
+pub fn refuse(levels: u64, store: &[u32], bits: u64) -> Result<(), Refusal>
+    ensures { Unless (refusal levels store.now bits) result (λ _. ⊤) }
 {
-    if let Some(refusal) = Signer::refuse_levels(levels) {
-        return Some(refusal);
-    }
-    if store.len() != 4 {
-        return Some(Refusal::Store(store.len() as u64));
-    }
-    if !is_sound(store) {
-        return Some(Refusal::Store(0));
-    }
-    if let Some(refusal) = refuse_key(u64::from(next_key(store)), levels) {
-        return Some(refusal);
-    }
-    Signer::refuse_bits(bits)
-}
-
-// Signs with the key that was reserved last, which is read back from the store: the one below the count. Called before the count is written, it would sign with another key.
-fn sign_counted<H: RowHasher>(
-    signer: &Signer,
-    bits: &[bool],
-    store: &[u32],
-    room: &mut SignatureRoom,
-) -> Done
-    requires four { length store.now ≡ 4 }
-    requires sound { sound store.now ≡ true }
-    requires counted { 1 ≤ next store.now }
-    requires levels { None ≡ levels_refusal signer.now.levels }
-    requires bits { None ≡ bits_refusal (length bits.now) }
-    ensures answer { result ≡ Key (next store.now - 1) }
-    ensures room { MadeIn (signed H.mix (value_of signer.now.seed) signer.now.levels (next store.now - 1) bits.now) room.old room.new }
-{
-    let key = u64::from(next_key(store)) - 1;
-    match sign_with::<H>(signer, key, bits, room) {
-        Ok(()) => Done::Key(key),
-        Err(refusal) => Done::Refused(refusal),
-    }
-}
-
-// Reserves the next key, and signs with it.
-fn sign_next<H: RowHasher>(
-    signer: &Signer,
-    bits: &[bool],
-    store: &mut [u32],
-    room: &mut SignatureRoom,
-) -> Done
-    requires four { length store.old ≡ 4 }
-    requires sound { sound store.old ≡ true }
-    requires small { next store.old < 4294967295 }
-    requires levels { None ≡ levels_refusal signer.now.levels }
-    requires bits { None ≡ bits_refusal (length bits.now) }
-    ensures answer { result ≡ Key (next store.old) }
-    ensures store { store.new ≡ reserved 2 store.old }
-    ensures room { MadeIn (signed H.mix (value_of signer.now.seed) signer.now.levels (next store.old) bits.now) room.old room.new }
-{
-    reserve(store);
-    sign_counted::<H>(signer, bits, store, room)
+    admit(levels, store, bits)?;
+    Ok(())
 }
 
 // Signs a row of bits with the next key, in the room. The store is lent: the key is reserved here, and its count is written before anything of the signature exists.
@@ -107,16 +47,24 @@ pub fn sign<H: RowHasher>(
     ensures room { RoomSays H.mix (value_of signer.now.seed) signer.now.levels bits.now result room.old room.new }
     ensures accepted { GivenAccepted H.mix (value_of signer.now.seed) signer.now.levels bits.now result room.new }
 {
-    if let Some(refusal) = refused(signer.levels, store, bits.len() as u64) {
-        return Done::Refused(refusal);
-    }
-    if !in_tree(u64::from(next_key(store)), signer.levels) {
+    let read = match admit(signer.levels, store, bits.len() as u64) {
+        Ok(read) => read,
+        Err(refusal) => return Done::Refused(refusal),
+    };
+    if !in_tree(u64::from(read.next_key()), signer.levels) {
         return Done::Empty;
     }
-    sign_next::<H>(signer, bits, store, room)
+    let counted = read.reserve(store);
+    // Read back from the store, the key is the one below the count: made before the count is written, the signature would be by another key.
+    let key = u64::from(counted.next_key()) - 1;
+    match sign_with::<H>(signer, key, bits, room) {
+        Ok(()) => Done::Key(key),
+        Err(refusal) => Done::Refused(refusal),
+    }
 }
 
 // Whether a signature is accepted, for a row of bits and a root of so many levels. If it is, then of every signer whose root this is it is that signer's own, or two rows are shown that hash to the same.
+#[tactic(auto, using(signatures::proofs::Forgeries::own_or_located_lem))]
 pub fn look<H: RowHasher>(
     root: &Number,
     levels: u64,

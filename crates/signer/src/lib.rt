@@ -7,4 +7,4 @@ pub mod promises;
 mod store;
 
 pub use answer::Done;
-pub use entry::{look, refused, sign};
+pub use entry::{look, refuse, sign};

@@ -21,7 +21,7 @@ use crate::signature::SignatureLines;
 use hash::{Number, RowHasher};
 use keys::{Refusal, Signer};
 use signatures::{SignatureRoom, SignatureView};
-use signer::{Done, look, refused, sign};
+use signer::{Done, look, refuse, sign};
 use std::alloc::{AllocError, Global};
 use tree::root;
 
@@ -67,7 +67,7 @@ impl Session {
         ensures accepted { IfOk result (λ d. GivenAccepted H.mix (value_of self.old.signer.seed) self.old.signer.levels (bits_of_text H.mix text.now self.old.bits) d self.new.room) }
         ensures same { (self.new.signer ≡ self.old.signer) × (self.new.bits ≡ self.old.bits) }
     {
-        if let Some(refusal) = refused(self.signer.levels, &self.store, self.bits) {
+        if let Err(refusal) = refuse(self.signer.levels, &self.store, self.bits) {
             return Ok(Done::Refused(refusal));
         }
         let bits = text_bits::<H>(heap, text, self.bits)?;

@@ -3,7 +3,7 @@ use Rattle.std.proofs.Common.{◌≡◌, ℕ, min, Bool, List, length, None, vec
 use Rattle.std.proofs.lemmas.List.FromFn.{length-map-range_with_len}
 use Rattle.std.proofs.lemmas.List.{with_items_is}
 use Rattle.hash.specs.Value.{value_of, bytes_of, bit_at}
-use Rattle.keys.proofs.Refused.{bits_taken}
+use Rattle.keys.proofs.Refused.{bits_taken, unrefused}
 use Rattle.signer.specs.Answers.{refusal, answer, stored, RoomSays, GivenAccepted}
 use Rattle.signer.proofs.Entries.{taken}
 use Rattle.texts.specs.Bits.{text_row}
@@ -20,7 +20,7 @@ returns g c =
     let s = value_of self.signer.seed in
     let n = self.bits in
     let m = vec_items self.store in
-    let none : None ≡ refusal l m n = c.in_default.ensures ∙ ap (λ (x : List ℕ). refusal l x n) c.deref.ensures.value in
+    let none : None ≡ refusal l m n = (unrefused _ _ _ c.in_default.ensures).0 ∙ ap (λ (x : List ℕ). refusal l x n) c.deref.ensures.value in
     let few = bits_taken n (taken l m n none).3 in
     let row = c.deref-2.ensures.value ∙ c.in_ok-bits.ensures in
     let count : length c.deref-2.result.now ≡ n =
