@@ -2,7 +2,7 @@
 use Rattle.std.specs.Prelude.{ℕ, Bool, true, false, List, ◌++◌, Ok, Err, codes, decimal, Result}
 use Rattle.hash.specs.Value.{bytes_of, value_of}
 use Rattle.hash.specs.declared.number.Number.{Number}
-use Rattle.keys.specs.Refusals.{refusal_number, refusal_place}
+use Rattle.keys.specs.Refusals.{refusal_spelled}
 use Rattle.keys.specs.declared.refusal.Refusal.{Refusal}
 use Rattle.signatures.specs.Signatures.{Signature}
 use Rattle.signer.specs.declared.answer.Done.{Done}
@@ -13,10 +13,6 @@ use Rattle.texts.specs.Spelling.{hex, numbers_line}
 abbrev pub signature_text : Signature → List ℕ
 signature_text g =
     codes "key " ++ (decimal g.key ++ (numbers_line (codes "\nparts") g.parts ++ (numbers_line (codes "\nothers") g.others ++ numbers_line (codes "\npath") g.path)))
-
--- a refusal: its number and its place
-abbrev pub refusal_spelled : Refusal → List ℕ
-refusal_spelled r = decimal (refusal_number r) ++ (codes " " ++ decimal (refusal_place r))
 
 -- the answer to `root`
 abbrev pub root_spelled : Result Number Refusal → List ℕ

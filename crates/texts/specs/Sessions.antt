@@ -2,7 +2,7 @@
 use Rattle.std.specs.Prelude.{◌≡◌, ℕ, Bool, true, ◌⊎◌, List, Some, None, Ok, Err, vec_items, string_bytes, codes, Option, Result, String, MatchOption}
 use Rattle.hash.specs.Mix.{Mix}
 use Rattle.hash.specs.Value.{bytes_of, value_of}
-use Rattle.keys.specs.Refusals.{first, levels_refusal, bits_refusal}
+use Rattle.keys.specs.Refusals.{first, levels_refusal, bits_refusal, refusal_spelled}
 use Rattle.keys.specs.declared.refusal.Refusal.{Refusal}
 use Rattle.tree.specs.Tree.{node}
 use Rattle.signatures.specs.Rows.{LocatedCollision}
@@ -13,7 +13,7 @@ use Rattle.signer.specs.Store.{next}
 use Rattle.signer.specs.declared.answer.Done.TheVariants.{Key}
 use Rattle.std.specs.declared.alloc.Global.{Global}
 use Rattle.texts.specs.Bits.{bits_of_text}
-use Rattle.texts.specs.Replies.{signature_text, refusal_spelled, sign_spelled, look_spelled}
+use Rattle.texts.specs.Replies.{signature_text, sign_spelled, look_spelled}
 use Rattle.texts.specs.SignatureLines.{signature_of, LinesOf, SignatureRead}
 use Rattle.texts.specs.Spelling.{hex}
 use Rattle.texts.specs.declared.command.Command.{Command}

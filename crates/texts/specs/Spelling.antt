@@ -1,5 +1,5 @@
 -- How numbers are written, by the codes of ASCII. Assumes nothing: these are definitions.
-use Rattle.std.specs.Prelude.{◌≡◌, ℕ, ◌+◌, ◌-◌, ◌/◌, ◌%◌, ◌<◌, ◌≤◌, Bool, true, cond, ◌&&◌, List, [], ◌∷◌, ◌++◌, map, length, Some, None, Option, ◌≢◌, nat_le, nat_lt, slice_index}
+use Rattle.std.specs.Prelude.{◌≡◌, ℕ, ◌-◌, ◌<◌, ◌≤◌, Bool, true, cond, ◌&&◌, List, [], ◌∷◌, ◌++◌, map, length, Some, None, Option, ◌≢◌, nat_le, nat_lt, slice_index}
 pub use Rattle.hash.specs.Hex.{hex_digit, hex_byte, hex}
 use Rattle.hash.specs.Value.{bytes_of}
 use Rattle.std.specs.List.{flat_map}

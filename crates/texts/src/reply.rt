@@ -1,7 +1,8 @@
 // What is printed for each answer.
 ghost use Rattle.std.specs.Prelude.{◌≡◌, IfOk, string_bytes};
+ghost use Rattle.keys.specs.Refusals.{refusal_spelled};
 ghost use Rattle.signatures.specs.Views.{held};
-ghost use Rattle.texts.specs.Replies.{refusal_spelled, root_spelled, sign_spelled, look_spelled};
+ghost use Rattle.texts.specs.Replies.{root_spelled, sign_spelled, look_spelled};
 
 use crate::hex::push_hex;
 use crate::signature::push_signature;
@@ -14,10 +15,7 @@ use std::alloc::{AllocError, Global};
 pub fn refusal_text(heap: Global, refusal: Refusal) -> Result<String, AllocError>
     ensures { IfOk result (λ s. string_bytes s ≡ refusal_spelled refusal) }
 {
-    let number = refusal.number();
-    let place = refusal.place();
-    let text = format!(in heap; "{number} {place}")?;
-    Ok(text)
+    Ok(format!(in heap; "{refusal}")?)
 }
 
 pub fn root_text(heap: Global, root: Result<Number, Refusal>) -> Result<String, AllocError>
