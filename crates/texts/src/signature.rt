@@ -1,8 +1,8 @@
 // The four lines of a signature.
 ghost use Rattle.std.specs.Prelude.{◌≡◌, ℕ, ◌+◌, min, [], ◌++◌, IfOk, string_bytes, MatchOption, OnOk};
 ghost use Rattle.keys.specs.declared.refusal.Refusal.TheVariants.{Line};
+ghost use Rattle.signatures.specs.Lines.{signature_text};
 ghost use Rattle.signatures.specs.Views.{viewed};
-ghost use Rattle.texts.specs.Replies.{signature_text};
 ghost use Rattle.texts.specs.SignatureLines.{signature_of, KeySpelled, SignatureRead};
 
 use crate::decimal::read_decimal;
