@@ -13,7 +13,7 @@ use keys::Refusal;
 use std::alloc::Global;
 use std::io;
 use std::io::{BufRead, BufReader};
-use texts::{Command, Session, SignatureLines, read_command, refusal_text};
+use texts::{Command, Session, SignatureLines, read_command};
 
 // The next four lines. All four are taken, and one that is not there is empty.
 fn four_lines<R: BufRead>(heap: Global, input: &mut Input<R>) -> io::Result<SignatureLines>
@@ -67,8 +67,8 @@ fn run<R: BufRead>(rt: &HostRuntime, input: &mut Input<R>) -> anyhow::Result<()>
         match read_command(heap, &line)? {
             Some(command) => answer(rt, &mut session, input, command)?,
             None => {
-                let text = refusal_text(heap, Refusal::Line(number))?;
-                println!(rt; "{text}")?;
+                let refusal = Refusal::Line(number);
+                println!(rt; "{refusal}")?;
             }
         }
     }
