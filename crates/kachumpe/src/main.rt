@@ -13,7 +13,7 @@ use keys::Refusal;
 use std::alloc::Global;
 use std::io;
 use std::io::{BufRead, BufReader};
-use texts::{Command, Session, SignatureLines, read_command, refusal_text};
+use texts::{Command, Session, SignatureLines, read_command};
 
 // The next line; at the end of the input an empty one.
 fn line_or_empty<R: BufRead>(heap: Global, input: &mut Input<R>) -> io::Result<Vec<u8>> {
@@ -68,8 +68,8 @@ fn run<R: BufRead>(rt: &HostRuntime, input: &mut Input<R>) -> anyhow::Result<()>
         match read_command(heap, &line)? {
             Some(command) => answer(rt, &mut session, input, command)?,
             None => {
-                let text = refusal_text(heap, Refusal::Line(number))?;
-                println!(rt; "{text}")?;
+                let refusal = Refusal::Line(number);
+                println!(rt; "{refusal}")?;
             }
         }
     }

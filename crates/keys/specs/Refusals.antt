@@ -1,5 +1,5 @@
 -- The refusals: the number and the place of each, and when the first two apply that need no store. Assumes nothing: these are definitions.
-use Rattle.std.specs.Prelude.{◌≡◌, ℕ, if◌then◌else◌, ◌&&◌, Some, None, Ok, Err, Option, Result, nat_le}
+use Rattle.std.specs.Prelude.{◌≡◌, ℕ, if◌then◌else◌, ◌&&◌, List, ◌++◌, Some, None, Ok, Err, codes, decimal, Option, Result, nat_le}
 use Rattle.keys.specs.Limits.{built_levels, max_bits}
 use Rattle.keys.specs.declared.refusal.Refusal.{Refusal}
 use Rattle.keys.specs.declared.refusal.Refusal.TheVariants.{Levels, Store, NextKey, Bits, Line}
@@ -19,6 +19,10 @@ refusal_place (Store at) = at
 refusal_place (NextKey k) = k
 refusal_place (Bits n) = n
 refusal_place (Line at) = at
+
+-- a refusal as it is printed: its number and its place
+abbrev pub refusal_spelled : Refusal → List ℕ
+refusal_spelled r = decimal (refusal_number r) ++ (codes " " ++ decimal (refusal_place r))
 
 -- the first of two that applies
 abbrev pub first : Option Refusal → Option Refusal → Option Refusal

@@ -1,6 +1,9 @@
 // Why something is turned away. Of several the first in this list applies, and what is turned away changes nothing.
-ghost use Rattle.std.specs.Prelude.{◌≡◌};
-ghost use Rattle.keys.specs.Refusals.{refusal_number, refusal_place};
+ghost use Rattle.std.specs.Prelude.{◌≡◌, Some};
+ghost use Rattle.keys.specs.Refusals.{refusal_number, refusal_place, refusal_spelled};
+
+use std::error::Error;
+use std::fmt;
 
 #[derive(Clone, Copy, Debug, PartialEq, Eq)]
 pub enum Refusal {
@@ -41,3 +44,14 @@ impl Refusal {
         }
     }
 }
+
+// Its number, a space and its place.
+impl fmt::Display for Refusal {
+    ghost output = { λ r. Some (refusal_spelled r) };
+
+    fn fmt<W: fmt::Write>(&self, f: &mut fmt::Formatter<W>) -> fmt::Result {
+        write!(f, "{} {}", self.number(), self.place())
+    }
+}
+
+impl Error for Refusal {}

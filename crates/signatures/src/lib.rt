@@ -1,6 +1,7 @@
 // Signatures: what one is, signing with a given key, and verifying one.
 #![tactic(auto)]
 
+mod lines;
 pub mod room;
 pub mod signing;
 pub mod verifying;

@@ -1,7 +1,7 @@
 -- Lines: what follows a word, and the numbers of a line, one after the other.
-use Rattle.std.proofs.Common.{◌≡◌, ℕ, ◌+◌, ◌-◌, ◌<◌, ◌≤◌, List, [], ◌∷◌, ◌++◌, map, length, get_or, take, drop, Some, None, Option, sym, refl, ap, ◌∙◌, arith, MatchOption}
+use Rattle.std.proofs.Common.{◌≡◌, ℕ, ◌-◌, ◌<◌, ◌≤◌, List, [], ◌∷◌, ◌++◌, map, length, get_or, take, drop, Some, None, Option, sym, refl, ap, ◌∙◌, arith, MatchOption}
 use Rattle.std.specs.List.{flat_map}
-use Rattle.std.proofs.lemmas.List.{append_assoc, append-nil, drop_at, length-append, flat_map_more, map_push, nil_from_length, take-append-drop, take_at, take_more, take_rest}
+use Rattle.std.proofs.lemmas.List.{append_assoc, append-nil, drop_at, length-append, flat_map_more, map_push, nil_from_length, take-append-drop, take_at, take_rest}
 use Rattle.std.proofs.lemmas.Option.{MatchOption-at_none, MatchOption-at_some}
 use Rattle.hash.specs.Value.{value_of, bytes_of}
 use Rattle.hash.specs.declared.number.Number.{Number}
@@ -33,12 +33,6 @@ numbered (v ∷ vs) =
 -- a line of numbers by their bytes
 abbrev pub bytes_line : List ℕ → List Number → List ℕ
 bytes_line word ns = word ++ flat_map spaced ns
-
--- one number more
-pub numbers_more : (out : List ℕ) (ns : List Number) (i : ℕ) (n : Number) → i < length ns → n ≡ get_or ns i n →
-    (out ++ flat_map spaced (take i ns)) ++ spaced n ≡ out ++ flat_map spaced (take (i + 1) ns)
-numbers_more out ns i n h e =
-    flat_map_more spaced out (take i ns) n ∙ ap (λ (ms : List Number). out ++ flat_map spaced ms) (ap (λ (m : Number). take i ns ++ (m ∷ [])) e ∙ sym (take_more ns i n h))
 
 -- what is left, if it is numbers and not empty, begins with one; then the rest is what follows 65 bytes
 pub first_of : (left : List ℕ) (ns : List Number) → left ≡ flat_map spaced ns → 0 < length left →
@@ -74,11 +68,6 @@ one_read line word left ns ms n e f m =
 
 pub all_read : (line word left : List ℕ) (ns : List Number) → length left ≡ 0 → line ≡ bytes_line word ns ++ left → line ≡ bytes_line word ns
 all_read line word left ns z e = e ∙ (ap (λ (r : List ℕ). bytes_line word ns ++ r) (nil_from_length left z) ∙ append-nil (bytes_line word ns))
-
--- four texts, one after the other
-pub four_more : (o p q r s a b c d : List ℕ) → p ≡ o ++ a → q ≡ p ++ b → r ≡ q ++ c → s ≡ r ++ d → s ≡ o ++ (a ++ (b ++ (c ++ d)))
-four_more o p q r s a b c d e f g h =
-    h ∙ rw (g, f, e) (append_assoc ((o ++ a) ++ b) c d ∙ (append_assoc (o ++ a) b (c ++ d) ∙ append_assoc o a (b ++ (c ++ d))))
 
 -- a text cut at a place, where what is left begins with a word
 pub cut_at : (text word rest : List ℕ) (e : ℕ) → take (length text - e) (drop e text) ≡ word ++ rest → text ≡ take e text ++ (word ++ rest)

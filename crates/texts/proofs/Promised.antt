@@ -6,11 +6,12 @@ use Rattle.std.proofs.lemmas.Fmt.{decimal_digit}
 use Rattle.std.proofs.lemmas.Bool.{ltb-true}
 use Rattle.hash.specs.Mix.{Mix}
 use Rattle.hash.specs.Value.{bytes_of, value_of, bit_at}
-use Rattle.keys.specs.Refusals.{refusal_number, refusal_place}
+use Rattle.keys.specs.Refusals.{refusal_number, refusal_place, refusal_spelled}
 use Rattle.keys.specs.declared.refusal.Refusal.{Refusal}
 use Rattle.keys.specs.declared.refusal.Refusal.TheVariants.{Levels as TooManyLevels, Store as BadStore, NextKey, Bits, Line}
 use Rattle.keys.proofs.Refused.{bits_taken}
 use Rattle.tree.specs.Tree.{node}
+use Rattle.signatures.specs.Lines.{signature_text}
 use Rattle.signatures.specs.Rows.{LocatedCollision}
 use Rattle.signatures.specs.Signatures.{signed, accepted}
 use Rattle.signatures.proofs.Forgeries.{own_or_located_lem}
@@ -22,7 +23,7 @@ use Rattle.signer.specs.declared.answer.Done.{Done}
 use Rattle.signer.specs.declared.answer.Done.TheVariants.{Key}
 use Rattle.signer.proofs.Entries.{taken, key_answered}
 use Rattle.texts.specs.Bits.{text_row}
-use Rattle.texts.specs.Replies.{signature_text, refusal_spelled, sign_spelled, look_spelled}
+use Rattle.texts.specs.Replies.{sign_spelled, look_spelled}
 use Rattle.texts.specs.Sessions.{bits_asked, look_answer, Says, Answered, Promised}
 use Rattle.texts.specs.SignatureLines.{signature_of, LinesOf, SignatureRead}
 use Rattle.texts.specs.declared.command.Command.{Command}

@@ -1,22 +1,14 @@
 -- What is printed. Assumes nothing: these are definitions.
-use Rattle.std.specs.Prelude.{ℕ, Bool, true, false, List, ◌++◌, Ok, Err, codes, decimal, Result}
+use Rattle.std.specs.Prelude.{ℕ, Bool, true, false, List, Ok, Err, codes, Result}
+use Rattle.hash.specs.Hex.{hex}
 use Rattle.hash.specs.Value.{bytes_of, value_of}
 use Rattle.hash.specs.declared.number.Number.{Number}
-use Rattle.keys.specs.Refusals.{refusal_number, refusal_place}
+use Rattle.keys.specs.Refusals.{refusal_spelled}
 use Rattle.keys.specs.declared.refusal.Refusal.{Refusal}
+use Rattle.signatures.specs.Lines.{signature_text}
 use Rattle.signatures.specs.Signatures.{Signature}
 use Rattle.signer.specs.declared.answer.Done.{Done}
 use Rattle.signer.specs.declared.answer.Done.TheVariants.{Key, Cut, Empty, Refused}
-use Rattle.texts.specs.Spelling.{hex, numbers_line}
-
--- the four lines of a signature, with a newline before each but the first
-abbrev pub signature_text : Signature → List ℕ
-signature_text g =
-    codes "key " ++ (decimal g.key ++ (numbers_line (codes "\nparts") g.parts ++ (numbers_line (codes "\nothers") g.others ++ numbers_line (codes "\npath") g.path)))
-
--- a refusal: its number and its place
-abbrev pub refusal_spelled : Refusal → List ℕ
-refusal_spelled r = decimal (refusal_number r) ++ (codes " " ++ decimal (refusal_place r))
 
 -- the answer to `root`
 abbrev pub root_spelled : Result Number Refusal → List ℕ

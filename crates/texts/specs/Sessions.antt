@@ -1,10 +1,12 @@
 -- What a command is answered, and what it leaves of the session. For every hash h; power lasts for both writes of a `sign`. Assumes nothing: these are definitions.
 use Rattle.std.specs.Prelude.{◌≡◌, ℕ, Bool, true, ◌⊎◌, List, Some, None, Ok, Err, vec_items, string_bytes, codes, Option, Result, String, MatchOption}
+use Rattle.hash.specs.Hex.{hex}
 use Rattle.hash.specs.Mix.{Mix}
 use Rattle.hash.specs.Value.{bytes_of, value_of}
-use Rattle.keys.specs.Refusals.{first, levels_refusal, bits_refusal}
+use Rattle.keys.specs.Refusals.{first, levels_refusal, bits_refusal, refusal_spelled}
 use Rattle.keys.specs.declared.refusal.Refusal.{Refusal}
 use Rattle.tree.specs.Tree.{node}
+use Rattle.signatures.specs.Lines.{signature_text}
 use Rattle.signatures.specs.Rows.{LocatedCollision}
 use Rattle.signatures.specs.Signatures.{signed, accepted}
 use Rattle.signer.specs.Answers.{answer, stored}
@@ -13,9 +15,8 @@ use Rattle.signer.specs.Store.{next}
 use Rattle.signer.specs.declared.answer.Done.TheVariants.{Key}
 use Rattle.std.specs.declared.alloc.Global.{Global}
 use Rattle.texts.specs.Bits.{bits_of_text}
-use Rattle.texts.specs.Replies.{signature_text, refusal_spelled, sign_spelled, look_spelled}
+use Rattle.texts.specs.Replies.{sign_spelled, look_spelled}
 use Rattle.texts.specs.SignatureLines.{signature_of, LinesOf, SignatureRead}
-use Rattle.texts.specs.Spelling.{hex}
 use Rattle.texts.specs.declared.command.Command.{Command}
 use Rattle.texts.specs.declared.command.Command.TheVariants.{Store, Levels, Root, Sign, Look}
 use Rattle.texts.specs.declared.session.Session.{Session}

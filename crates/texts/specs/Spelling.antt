@@ -1,7 +1,7 @@
 -- How numbers are written, by the codes of ASCII. Assumes nothing: these are definitions.
-use Rattle.std.specs.Prelude.{◌≡◌, ℕ, ◌+◌, ◌-◌, ◌/◌, ◌%◌, ◌<◌, ◌≤◌, Bool, true, cond, ◌&&◌, List, [], ◌∷◌, ◌++◌, map, length, Some, None, Option, ◌≢◌, nat_le, nat_lt, slice_index}
-use Rattle.hash.specs.Value.{bytes_of}
-use Rattle.std.specs.List.{flat_map}
+use Rattle.std.specs.Prelude.{◌≡◌, ℕ, ◌-◌, ◌<◌, ◌≤◌, Bool, true, cond, ◌&&◌, List, [], ◌∷◌, map, length, Some, None, Option, ◌≢◌, nat_le, nat_lt, slice_index}
+pub use Rattle.hash.specs.Hex.{hex_digit, hex_byte, hex}
+pub use Rattle.signatures.specs.Lines.{numbers_line}
 use Rattle.std.specs.Int.Digits.{number_from_digits}
 
 -- where the first word of a text ends: at the first space, or with the text
@@ -9,22 +9,6 @@ pub record WordEnd (cs : List ℕ) (r : ℕ) : Type 0 where
   pub within : r ≤ length cs
   pub before : (k : ℕ) → k < r → slice_index cs k ≢ 32
   pub found : r < length cs → slice_index cs r ≡ 32
-
--- a digit in sixteens: 0-9, a-f
-abbrev pub hex_digit : ℕ → ℕ
-hex_digit d = cond (nat_lt d 10) (48 + d) (87 + d)
-
--- a byte: two digits, the higher first
-abbrev pub hex_byte : ℕ → List ℕ
-hex_byte b = hex_digit (b / 16) ∷ hex_digit (b % 16) ∷ []
-
--- bytes in sixteens, one after the other
-abbrev pub hex : List ℕ → List ℕ
-hex bs = flat_map hex_byte bs
-
--- a line of numbers: a word, and each number in sixteens after one space
-abbrev pub numbers_line : List ℕ → List ℕ → List ℕ
-numbers_line word vs = word ++ flat_map (λ v. 32 ∷ hex (bytes_of v)) vs
 
 -- one of 0-9, and a text of these alone
 abbrev pub is_digit : ℕ → Bool

@@ -1,24 +1,13 @@
 // A line of numbers: a word, and each number in sixteens after one space.
-ghost use Rattle.std.specs.Prelude.{◌≡◌, ℕ, ◌≤◌, true, List, ◌∷◌, ◌++◌, map, length, drop, is_some, IfOk, string_bytes, MatchOption, OnOk, ◌≢◌};
+ghost use Rattle.std.specs.Prelude.{◌≡◌, ℕ, ◌≤◌, true, List, ◌∷◌, ◌++◌, map, length, drop, is_some, IfOk, MatchOption, ◌≢◌};
 ghost use Rattle.hash.specs.Value.{value_of};
 ghost use Rattle.hash.specs.declared.number.Number.{Number};
 ghost use Rattle.texts.specs.Spelling.{hex, numbers_line};
 
-use crate::hex::{push_hex, read_hex};
+use crate::hex::read_hex;
 use crate::words::after;
 use hash::Number;
 use std::alloc::{AllocError, Global};
-
-pub fn push_numbers(out: &mut String, word: &str, numbers: &[Number]) -> Result<(), AllocError>
-    ensures { OnOk result (string_bytes out.new ≡ string_bytes out.old ++ numbers_line word.now (map value_of numbers.now)) }
-{
-    out.push_str(word)?;
-    for number in numbers {
-        out.push(' ')?;
-        push_hex(out, number)?;
-    }
-    Ok(())
-}
 
 // The number that a text begins with, after one space. Both take 65 bytes.
 fn first_number(text: &[u8]) -> Option<Number>

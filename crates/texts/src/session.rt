@@ -16,7 +16,7 @@ ghost use Rattle.texts.specs.declared.signature.ReadSignature.{ReadSignature};
 
 use crate::bits::text_bits;
 use crate::command::Command;
-use crate::reply::{look_text, refusal_text, root_text, sign_text};
+use crate::reply::{look_text, root_text, sign_text};
 use crate::signature::SignatureLines;
 use hash::{Number, RowHasher};
 use keys::{Refusal, Signer};
@@ -104,7 +104,7 @@ impl Session {
                 let accepted = self.look::<H>(heap, root, text, signature.view())?;
                 String::from_str(heap, look_text(accepted))
             }
-            Err(refusal) => refusal_text(heap, refusal),
+            Err(refusal) => format!(in heap; "{refusal}"),
         }
     }
 

@@ -1,12 +1,11 @@
 // The four lines of a signature.
-ghost use Rattle.std.specs.Prelude.{◌≡◌, ℕ, ◌+◌, min, [], ◌++◌, IfOk, string_bytes, MatchOption, OnOk};
+ghost use Rattle.std.specs.Prelude.{◌≡◌, ℕ, ◌+◌, min, [], IfOk, MatchOption};
 ghost use Rattle.keys.specs.declared.refusal.Refusal.TheVariants.{Line};
 ghost use Rattle.signatures.specs.Views.{viewed};
-ghost use Rattle.texts.specs.Replies.{signature_text};
 ghost use Rattle.texts.specs.SignatureLines.{signature_of, KeySpelled, SignatureRead};
 
 use crate::decimal::read_decimal;
-use crate::numbers::{push_numbers, read_numbers};
+use crate::numbers::read_numbers;
 use crate::words::after;
 use hash::Number;
 use keys::Refusal;
@@ -99,21 +98,4 @@ impl SignatureLines {
             path,
         }))
     }
-}
-
-// Writes the four lines, the last with no newline.
-pub fn push_signature(
-    heap: Global,
-    out: &mut String,
-    signature: SignatureView<'_>,
-) -> Result<(), AllocError>
-    ensures { OnOk result (string_bytes out.new ≡ string_bytes out.old ++ signature_text (viewed signature.entry)) }
-{
-    let key = signature.key;
-    let first = format!(in heap; "key {key}")?;
-    out.push_str(&first)?;
-    push_numbers(out, "\nparts", signature.parts)?;
-    push_numbers(out, "\nothers", signature.others)?;
-    push_numbers(out, "\npath", signature.path)?;
-    Ok(())
 }

@@ -9,6 +9,7 @@ pub struct Number {
     ghost digits: { (i : ℕ) → slice_index bytes i < 256 },
 }
 
+mod display;
 mod equal;
 mod methods;
 

@@ -2,6 +2,7 @@
 use Rattle.std.proofs.Common.{◌≡◌, ℕ, Bool, List, Some, vec_items, sym, refl, ap, ◌∙◌, subst}
 use Rattle.hash.specs.Mix.{Mix}
 use Rattle.hash.specs.Value.{value_of}
+use Rattle.signatures.specs.Lines.{signature_text}
 use Rattle.signatures.specs.Signatures.{signed}
 use Rattle.signatures.specs.Views.{held}
 use Rattle.signatures.specs.declared.room.SignatureRoom.{SignatureRoom}
@@ -11,7 +12,7 @@ use Rattle.signer.specs.declared.answer.Done.{Done}
 use Rattle.signer.specs.declared.answer.Done.TheVariants.{Key, Cut, Empty, Refused}
 use Rattle.signer.proofs.Entries.{key_answered}
 use Rattle.texts.specs.Bits.{bits_of_text}
-use Rattle.texts.specs.Replies.{signature_text, sign_spelled}
+use Rattle.texts.specs.Replies.{sign_spelled}
 use Rattle.texts.specs.Sessions.{look_answer, Executed, Answered}
 use Rattle.texts.specs.declared.command.Command.{Command}
 use Rattle.texts.proofs.Promised.{promised}

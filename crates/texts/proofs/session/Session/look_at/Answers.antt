@@ -9,4 +9,4 @@ use Rattle.texts.proofs.session.Session.look_at.Goals as goal
 pub returns-in-Err : goal.returns-in-Err
 returns-in-Err g c =
     let bad = subst (λ (x : Result ReadSignature Refusal). SignatureRead c.args.lines.now x) c.in-Err.is c.in_ok-signature.ensures in
-    IfOk-weaker c.refusal_text.result _ _ (λ s e. (Err c.in-Err.refusal, bad, e)) c.refusal_text.ensures
+    IfOk-weaker c.format.result _ _ (λ s e. (Err c.in-Err.refusal, bad, e)) c.format.ensures.ok
