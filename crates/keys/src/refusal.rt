@@ -36,11 +36,11 @@ impl Refusal {
         ensures { result ≡ refusal_place self }
     {
         match self {
-            Refusal::Levels(at) => at,
-            Refusal::Store(at) => at,
-            Refusal::NextKey(at) => at,
-            Refusal::Bits(at) => at,
-            Refusal::Line(at) => at,
+            Refusal::Levels(at)
+            | Refusal::Store(at)
+            | Refusal::NextKey(at)
+            | Refusal::Bits(at)
+            | Refusal::Line(at) => at,
         }
     }
 }

@@ -17,4 +17,5 @@ pub returns : goal.returns
 unfolding leaf
 returns g c =
     let e : c.loop-bit.bit ≡ c.args.bits = omega arith in
-    c.finish.ensures _ c.loop-bit.invariant ∙ ap (λ n. g.H.RowHasher.mix (leaf_row g.H.RowHasher.mix n (value_of c.args.self.now.seed) c.args.self.now.index)) e
+    let row = leaf_row g.H.RowHasher.mix c.loop-bit.bit (value_of c.args.self.now.seed) c.args.self.now.index in
+    c.finish.ensures row c.loop-bit.invariant ∙ ap (λ n. g.H.RowHasher.mix (leaf_row g.H.RowHasher.mix n (value_of c.args.self.now.seed) c.args.self.now.index)) e
