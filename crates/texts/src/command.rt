@@ -66,11 +66,7 @@ fn read_levels(text: &[u8]) -> Option<Levels>
 fn read_count(word: &[u8]) -> Option<u32>
     ensures { result ≡ decimal_of (2 ^ 32) word.now }
 {
-    let value = read_decimal(word)?;
-    if value > u64::from(u32::MAX) {
-        return None;
-    }
-    Some(value as u32)
+    u32::try_from(read_decimal(word)?).ok()
 }
 
 // The count that a text begins with, after one space, and what follows it: nothing, or what begins with a space.
@@ -124,16 +120,10 @@ pub fn read_command(heap: Global, line: &[u8]) -> Result<Option<Command>, AllocE
         return read_look(heap, text);
     }
     if let Some(text) = after(line, b"levels ") {
-        let Some(levels) = read_levels(text) else {
-            return Ok(None);
-        };
-        return Ok(Some(Command::Levels(levels)));
+        return Ok(read_levels(text).map(Command::Levels));
     }
     if let Some(text) = after(line, b"store") {
-        let Some(numbers) = read_store(heap, text)? else {
-            return Ok(None);
-        };
-        return Ok(Some(Command::Store(numbers)));
+        return Ok(read_store(heap, text)?.map(Command::Store));
     }
     if let Some(text) = after(line, b"root") {
         if text.is_empty() {
