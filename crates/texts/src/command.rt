@@ -125,10 +125,5 @@ pub fn read_command(heap: Global, line: &[u8]) -> Result<Option<Command>, AllocE
     if let Some(text) = after(line, b"store") {
         return Ok(read_store(heap, text)?.map(Command::Store));
     }
-    if let Some(text) = after(line, b"root") {
-        if text.is_empty() {
-            return Ok(Some(Command::Root));
-        }
-    }
-    Ok(None)
+    Ok((line == b"root".as_slice()).then_some(Command::Root))
 }

@@ -24,8 +24,3 @@ pub returns-in-Some-after-3 : goal.returns-in-Some-after-3
 returns-in-Some-after-3 c =
     mapped c.args.line.now c.in_ok-read_store.field-0 c.map-in-Some-after-3.result c.map-in-Some-after-3.ensures.cases c.in_ok-read_store.ensures (no_store c.args.line.now c.in-Some-after-3.text.now c.in-Some-after-3.ensures)
     (λ v d e s. subst (λ (k : Command). Spelled c.args.line.now k) (sym e) (c.in-Some-after-3.text.now, c.in-Some-after-3.ensures, s))
-
-pub returns-then-is_empty : goal.returns-then-is_empty
-returns-then-is_empty c =
-    let none = nil_from_length c.in-Some-after-4.text.now (eqb-true _ _ (sym c.is_empty.ensures ∙ c.if-is_empty.true)) in
-    c.in-Some-after-4.ensures ∙ ap (λ (t : List ℕ). codes "root" ++ t) none
