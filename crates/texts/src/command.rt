@@ -1,13 +1,14 @@
 // The lines that ask for something.
-ghost use Rattle.std.specs.Prelude.{◌≡◌, ℕ, ◌^◌, List, ◌∷◌, ◌++◌, IfOk, Some, codes, MatchOption, ◌≢◌, slice_index};
+ghost use Rattle.std.specs.Prelude.{◌≡◌, ℕ, List, ◌++◌, IfOk, codes, MatchOption, slice_index};
 ghost use Rattle.hash.specs.declared.number.Number.{Number};
-ghost use Rattle.texts.specs.Commands.{DecimalBefore, Stops, LevelsSpelled, StoreSpelled, Spelled, takes_lines};
-ghost use Rattle.texts.specs.Spelling.{hex, decimal_of};
+ghost use Rattle.texts.specs.Commands.{DecimalBefore, LevelsSpelled, Spelled, takes_lines};
+ghost use Rattle.texts.specs.Spelling.{hex};
 ghost use Rattle.texts.specs.declared.command.Command.{Command};
 ghost use Rattle.texts.specs.declared.command.Levels.{Levels as LevelsAsked};
 
 use crate::decimal::read_decimal;
 use crate::hex::read_hex;
+use crate::spaced::read_words;
 use crate::words::{after, word_end};
 use hash::Number;
 use std::alloc::{AllocError, Global};
@@ -46,10 +47,8 @@ fn decimal_before<'a>(text: &'a [u8], word: &[u8]) -> Option<(u64, &'a [u8])>
     requires { slice_index word.now 0 ≡ 32 }
     ensures { MatchOption result ((v : ℕ) (rest : List ℕ) → DecimalBefore text.now word.now v rest → ⊥) (λ p. DecimalBefore text.now word.now p.0 p.1.now) }
 {
-    let end = word_end(text);
-    let value = read_decimal(&text[0..end])?;
-    let rest = after(&text[end..text.len()], word)?;
-    Some((value, rest))
+    let (digits, rest) = text.split_at(word_end(text));
+    Some((read_decimal(digits)?, after(rest, word)?))
 }
 
 // What follows the word `levels` and a space.
@@ -62,51 +61,15 @@ fn read_levels(text: &[u8]) -> Option<Levels>
     Some(Levels { levels, bits, seed })
 }
 
-// A decimal below 2^32.
-fn read_count(word: &[u8]) -> Option<u32>
-    ensures { result ≡ decimal_of (2 ^ 32) word.now }
-{
-    u32::try_from(read_decimal(word)?).ok()
-}
-
-// The count that a text begins with, after one space, and what follows it: nothing, or what begins with a space.
-fn first_count<'a>(text: &'a [u8]) -> Option<(u32, &'a [u8])>
-    ensures { MatchOption result ((w : List ℕ) (v : ℕ) (rest : List ℕ) → Stops rest → text.now ≡ 32 ∷ (w ++ rest) → decimal_of (2 ^ 32) w ≢ Some v) (λ p. (w : List ℕ) × Stops p.1.now × (text.now ≡ 32 ∷ (w ++ p.1.now)) × (decimal_of (2 ^ 32) w ≡ Some p.0)) }
-{
-    let text = after(text, b" ")?;
-    let end = word_end(text);
-    let count = read_count(&text[0..end])?;
-    Some((count, &text[end..text.len()]))
-}
-
-// What follows the word `store`: decimals, each after one space.
-fn read_store(heap: Global, text: &[u8]) -> Result<Option<Vec<u32>>, AllocError>
-    ensures { IfOk result (λ o. MatchOption o ((vs : List ℕ) → StoreSpelled text.now vs → ⊥) (λ v. StoreSpelled text.now v.items)) }
-{
-    let mut left = text;
-    let mut numbers = Vec::new(heap);
-    while !left.is_empty() {
-        let Some((number, rest)) = first_count(left) else {
-            return Ok(None);
-        };
-        numbers.push(number)?;
-        left = rest;
-    }
-    Ok(Some(numbers))
-}
-
 // What follows the word `look` and a space: a root in sixteens, a space and a text.
 fn read_look(heap: Global, text: &[u8]) -> Result<Option<Command>, AllocError>
     ensures { IfOk result (λ o. MatchOption o ((n : Number) (t : List ℕ) → text.now ≡ hex n.bytes ++ (codes " " ++ t) → ⊥) (λ c. ((cs : List ℕ) → cs ≡ codes "look " ++ text.now → Spelled cs c))) }
 {
-    let end = word_end(text);
-    let Some(root) = read_hex(&text[0..end]) else {
+    let (word, rest) = text.split_at(word_end(text));
+    let (Some(root), Some(text)) = (read_hex(word), after(rest, b" ")) else {
         return Ok(None);
     };
-    let Some(rest) = after(&text[end..text.len()], b" ") else {
-        return Ok(None);
-    };
-    Ok(Some(Command::Look(root, Vec::from_slice(heap, rest)?)))
+    Ok(Some(Command::Look(root, Vec::from_slice(heap, text)?)))
 }
 
 // The command that a line is, if it is one.
@@ -123,7 +86,7 @@ pub fn read_command(heap: Global, line: &[u8]) -> Result<Option<Command>, AllocE
         return Ok(read_levels(text).map(Command::Levels));
     }
     if let Some(text) = after(line, b"store") {
-        return Ok(read_store(heap, text)?.map(Command::Store));
+        return Ok(read_words(heap, text)?.map(Command::Store));
     }
     Ok((line == b"root".as_slice()).then_some(Command::Root))
 }

@@ -9,6 +9,7 @@ pub mod numbers;
 pub mod reply;
 pub mod session;
 pub mod signature;
+pub mod spaced;
 pub mod words;
 
 pub use bits::{digest, text_bits};
@@ -19,4 +20,5 @@ pub use numbers::{push_numbers, read_numbers};
 pub use reply::{look_text, refusal_text, root_text, sign_text};
 pub use session::Session;
 pub use signature::{ReadSignature, SignatureLines, push_signature, read_key};
+pub use spaced::{FromWord, read_words};
 pub use words::{after, word_end};

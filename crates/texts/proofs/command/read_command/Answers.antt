@@ -1,8 +1,6 @@
 -- What begins as a command and cannot be read on is none; nothing follows the word `root`.
-use Rattle.std.proofs.Common.{◌≡◌, rules, ℕ, List, ◌++◌, codes, sym, ap, ◌∙◌, Some, None, Option, MatchOption, IsSomeAnd, subst}
-use Rattle.std.proofs.lemmas.List.{nil_from_length}
-use Rattle.std.proofs.lemmas.Bool.{eqb-true}
-use Rattle.texts.specs.Commands.{LevelsSpelled, StoreSpelled, Spelled}
+use Rattle.std.proofs.Common.{◌≡◌, ℕ, List, sym, Some, None, Option, MatchOption, IsSomeAnd, subst}
+use Rattle.texts.specs.Commands.{Spelled}
 use Rattle.texts.specs.declared.command.Command.{Command}
 use Rattle.texts.proofs.Commanded.{no_levels, no_store}
 use Rattle.texts.proofs.command.read_command.Goals as goal
@@ -22,5 +20,5 @@ returns-in-Some-after-2 c =
 
 pub returns-in-Some-after-3 : goal.returns-in-Some-after-3
 returns-in-Some-after-3 c =
-    mapped c.args.line.now c.in_ok-read_store.field-0 c.map-in-Some-after-3.result c.map-in-Some-after-3.ensures.cases c.in_ok-read_store.ensures (no_store c.args.line.now c.in-Some-after-3.text.now c.in-Some-after-3.ensures)
+    mapped c.args.line.now c.in_ok-read_words.field-0 c.map-in-Some-after-3.result c.map-in-Some-after-3.ensures.cases c.in_ok-read_words.ensures (no_store c.args.line.now c.in-Some-after-3.text.now c.in-Some-after-3.ensures)
     (λ v d e s. subst (λ (k : Command). Spelled c.args.line.now k) (sym e) (c.in-Some-after-3.text.now, c.in-Some-after-3.ensures, s))
