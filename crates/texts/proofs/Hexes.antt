@@ -1,6 +1,7 @@
 -- Bytes in sixteens: how long they are, which digit stands where, and one byte more.
-use Rattle.std.proofs.Common.{◌≡◌, ℕ, zero, suc, ◌+◌, ◌*◌, ◌/◌, ◌%◌, ◌<◌, List, [], ◌∷◌, ◌++◌, length, get_or, take, set, sym, refl, ap, ◌∙◌, arith}
-use Rattle.std.proofs.lemmas.List.{append_assoc, take_more, take_more_set}
+use Rattle.std.proofs.Common.{◌≡◌, ℕ, zero, suc, ◌+◌, ◌*◌, ◌/◌, ◌%◌, ◌<◌, List, [], ◌∷◌, ◌++◌, length, get_or, take, drop, set, sym, refl, ap, ◌∙◌, arith}
+use Rattle.std.specs.Simd.{first_chunks}
+use Rattle.std.proofs.lemmas.List.{append_assoc, get_or-drop, get_or-take, take_more, take_more_set}
 use Rattle.std.proofs.lemmas.Bool.Decides.{nat_tests}
 use Rattle.texts.specs.Spelling.{hex_digit, hex_byte, hex}
 
@@ -47,3 +48,10 @@ read_more cs bs i p q hb hc small eh el so_far =
     let left : take (2 * (i + 1)) cs ≡ (hex (take i bs) ++ (hex_digit p ∷ [])) ++ (hex_digit q ∷ []) = ap (λ (k : ℕ). take k cs) two ∙ (both ∙ cc) in
     let right : hex (take (i + 1) (set bs i b)) ≡ hex (take i bs) ++ hex_byte b = ap hex (take_more_set bs i b hb) ∙ hex_push (take i bs) b in
     left ∙ (append_assoc (hex (take i bs)) (hex_digit p ∷ []) (hex_digit q ∷ []) ∙ (cc))
+
+-- a text in pairs: where a pair's digits stand
+pub pair_at : (text : List ℕ) (k i j n : ℕ) → i < k → j < 2 → n ≡ 2 * i + j → get_or (get_or (first_chunks 2 k text) i []) j 0 ≡ get_or text n 0
+pair_at text zero i j n h l e = absurd (omega arith)
+pair_at text (suc k) zero j n h l e = get_or-take 2 text j 0 l ∙ ap (λ (m : ℕ). get_or text m 0) (omega arith)
+pair_at text (suc k) (suc i) j n h l e =
+    pair_at (drop 2 text) k i j (2 * i + j) (omega arith) l refl ∙ (get_or-drop 2 text (2 * i + j) 0 ∙ ap (λ (m : ℕ). get_or text m 0) (omega arith))
