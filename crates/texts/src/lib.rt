@@ -19,6 +19,6 @@ pub use hex::{push_hex, read_hex};
 pub use numbers::{push_numbers, read_numbers};
 pub use reply::{look_text, refusal_text, root_text, sign_text};
 pub use session::Session;
-pub use signature::{ReadSignature, SignatureLines, push_signature, read_key};
+pub use signature::{ReadError, ReadSignature, SignatureLines, push_signature, read_key};
 pub use spaced::{FromWord, read_words};
 pub use words::{after, word_end};

@@ -17,7 +17,7 @@ ghost use Rattle.texts.specs.declared.signature.ReadSignature.{ReadSignature};
 use crate::bits::text_bits;
 use crate::command::Command;
 use crate::reply::{look_text, refusal_text, root_text, sign_text};
-use crate::signature::SignatureLines;
+use crate::signature::{ReadError, SignatureLines};
 use hash::{Number, RowHasher};
 use keys::{Refusal, Signer};
 use signatures::{SignatureRoom, SignatureView};
@@ -99,12 +99,13 @@ impl Session {
     ) -> Result<String, AllocError>
         ensures { IfOk result (λ s. (g : Result ReadSignature Refusal) × SignatureRead lines.now g × (string_bytes s ≡ look_answer H.mix self.now (value_of root.now) text.now g)) }
     {
-        match lines.read(heap)? {
+        match lines.read(heap) {
             Ok(signature) => {
                 let accepted = self.look::<H>(heap, root, text, signature.view())?;
                 String::from_str(heap, look_text(accepted))
             }
-            Err(refusal) => refusal_text(heap, refusal),
+            Err(ReadError::Refused(refusal)) => refusal_text(heap, refusal),
+            Err(ReadError::Memory(error)) => Err(error),
         }
     }
 
