@@ -41,9 +41,7 @@ impl ReadSignature {
 pub fn read_key(line: &[u8]) -> Option<u64>
     ensures { MatchOption result ((k : ℕ) → KeySpelled line.now k → ⊥) (λ k. KeySpelled line.now k) }
 {
-    let digits = after(line, b"key ")?;
-    let key = read_decimal(digits)?;
-    Some(key)
+    read_decimal(after(line, b"key ")?)
 }
 
 // Why a signature was not read: a line of it is none, or memory failed.
