@@ -35,10 +35,7 @@ impl Command {
     pub fn takes_lines(&self) -> bool
         ensures { result ≡ takes_lines self.now }
     {
-        match self {
-            Command::Look(_, _) => true,
-            _ => false,
-        }
+        matches!(self, Command::Look(_, _))
     }
 }
 
