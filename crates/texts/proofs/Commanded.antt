@@ -4,7 +4,7 @@ use Rattle.std.proofs.lemmas.List.{append_cancel_left}
 use Rattle.texts.specs.Commands.{LevelsSpelled, StoreSpelled, Spelled}
 use Rattle.texts.specs.declared.command.Command.{Command}
 use Rattle.texts.specs.declared.command.Command.TheVariants.{Store, Levels, Root, Sign, Look}
-use Rattle.texts.specs.declared.command.Levels.{Levels as LevelsAsked}
+use Rattle.tree.specs.declared.own.Tree.{Tree}
 
 abbrev letters : List ℕ → ℕ
 letters cs = 256 * get_or cs 0 0 + get_or cs 1 0
@@ -24,7 +24,7 @@ sorted cs (Sign t) s = ap letters s
 sorted cs (Look r t) s = ap letters s
 
 -- a line that begins as one sort does and cannot be read on is no command
-pub no_levels : (cs rest : List ℕ) → cs ≡ codes "levels " ++ rest → ((v : LevelsAsked) → LevelsSpelled rest v → ⊥) → (c : Command) → Spelled cs c → ⊥
+pub no_levels : (cs rest : List ℕ) → cs ≡ codes "levels " ++ rest → ((v : Tree) → LevelsSpelled rest v → ⊥) → (c : Command) → Spelled cs c → ⊥
 no_levels cs rest e none (Levels v) s =
     none v (subst (λ (t : List ℕ). LevelsSpelled t v) (append_cancel_left (codes "levels ") s.0 rest (sym s.1 ∙ e)) s.2)
 no_levels cs rest e none (Store v) s = omega (arith, ap letters e, sorted cs (Store v) s)

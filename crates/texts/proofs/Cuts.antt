@@ -1,71 +1,63 @@
--- Words: where one ends, and that a text is cut into them in one way only.
-use Rattle.std.proofs.Common.{◌≡◌, ℕ, zero, suc, ◌-◌, ◌/◌, ◌%◌, ◌^◌, ◌<◌, true, List, [], ◌∷◌, ◌++◌, map, length, get_or, take, drop, Some, None, sym, refl, ap, ◌∙◌, subst, add-zero, arith}
+-- Words: where one ends, that a text is cut into them in one way only, and that numbers are written as words.
+use Rattle.std.proofs.Common.{◌≡◌, ℕ, zero, suc, ◌/◌, ◌%◌, ◌^◌, ◌<◌, true, List, [], ◌∷◌, ◌++◌, length, get_or, take, drop, Some, None, sym, refl, ap, ◌∙◌, subst, arith}
 use Rattle.std.specs.List.{flat_map}
-use Rattle.std.proofs.lemmas.List.{append_cancel_left, drop_at, get_or-drop, length-drop, take_at, take_rest}
+use Rattle.std.specs.Str.Iter.{LacksByte}
+use Rattle.std.proofs.lemmas.List.{append_cancel_left, drop_at, get_or_append_left, length-append, take_at}
 use Rattle.std.proofs.lemmas.Bool.{and_parts, leb-true}
 use Rattle.std.proofs.lemmas.Bool.Decides.{nat_tests}
-use Rattle.texts.specs.Commands.{DecimalBefore, Stops, StoreSpelled}
+use Rattle.texts.specs.Commands.{DecimalBefore}
+use Rattle.texts.specs.Spaced.{Stops, FirstWord, SpacedWords}
 use Rattle.texts.specs.Spelling.{WordEnd, hex_digit, hex, is_digit, all_digits, digits_value, decimal_of}
 use Rattle.texts.proofs.Answered.{some_if}
 
--- no space in it
-abbrev pub Spaceless : List ℕ → Type 0
-Spaceless [] = Unit {0}
-Spaceless (c ∷ cs) = (c ≡ 32 → ⊥) × Spaceless cs
+-- no digit is a space
+pub digits_whole : (cs : List ℕ) → all_digits cs ≡ true → LacksByte 32 cs
+digits_whole [] e k h s = omega arith
+digits_whole (c ∷ cs) e zero h s = let low = leb-true 48 c (and_parts _ _ (and_parts (is_digit c) (all_digits cs) e).0).0 in omega (arith, low)
+digits_whole (c ∷ cs) e (suc k) h s = digits_whole cs (and_parts (is_digit c) (all_digits cs) e).1 k (omega arith) s
 
-pub digits_spaceless : (cs : List ℕ) → all_digits cs ≡ true → Spaceless cs
-digits_spaceless [] e = tt
-digits_spaceless (c ∷ cs) e =
-    let p = and_parts (is_digit c) (all_digits cs) e in
-    let low = leb-true 48 c (and_parts _ _ p.0).0 in (λ s. omega (arith, low), digits_spaceless cs p.1)
+pub decimal_whole : (limit : ℕ) (cs : List ℕ) (v : ℕ) → decimal_of limit cs ≡ Some v → LacksByte 32 cs
+decimal_whole limit cs v e = digits_whole cs (and_parts (all_digits cs) _ (and_parts _ _ (some_if _ v (digits_value cs) (sym e)).0).1).0
 
 digit_no_space : (d : ℕ) → hex_digit d ≡ 32 → ⊥
 digit_no_space d = grind (arith, nat_tests)
 
-pub hex_spaceless : (bs : List ℕ) → Spaceless (hex bs)
-hex_spaceless [] = tt
-hex_spaceless (b ∷ bs) = (digit_no_space (b / 16), (digit_no_space (b % 16), hex_spaceless bs))
+pub hex_whole : (bs : List ℕ) → LacksByte 32 (hex bs)
+hex_whole [] k h s = omega arith
+hex_whole (b ∷ bs) zero h s = digit_no_space (b / 16) s
+hex_whole (b ∷ bs) (suc zero) h s = digit_no_space (b % 16) s
+hex_whole (b ∷ bs) (suc (suc k)) h s = hex_whole bs k (omega arith) s
 
--- the end of the first word, of a text that is a word and what may stand behind one
-end_at : (w rest : List ℕ) (r : ℕ) → Spaceless w → Stops rest → WordEnd (w ++ rest) r → r ≡ length w
-end_at [] [] zero f s at = refl
-end_at [] [] (suc r) f s at = absurd (omega (arith, at.within))
-end_at [] (c ∷ cs) zero f s at = refl
-end_at [] (c ∷ cs) (suc r) f s at = absurd (at.before 0 (omega arith) (s (omega arith)))
-end_at (c ∷ w) rest zero f s at = absurd (f.0 (at.found (omega arith)))
-end_at (c ∷ w) rest (suc r) f s at =
-    ap (λ (n : ℕ). suc n)
-    (end_at w rest r f.1 s (record { within = omega (arith, at.within); before = λ k l e. at.before (suc k) (omega arith) e; found = λ l. at.found (omega arith) }))
+-- what stands behind a word begins where the word ends
+after_word : (w rest : List ℕ) → Stops rest → length w < length (w ++ rest) → get_or (w ++ rest) (length w) 0 ≡ 32
+after_word [] rest stops h = stops h
+after_word (c ∷ w) rest stops h = after_word w rest stops (omega arith)
 
--- a text begins with one word only
-pub same_word : (v w p q : List ℕ) → Spaceless v → Spaceless w → Stops p → Stops q → v ++ p ≡ w ++ q → (v ≡ w) × (p ≡ q)
-same_word [] [] p q f g s t e = (refl, e)
-same_word [] (c ∷ w) p q f g s t e = absurd (g.0 (let l = ap length e in let h = ap (λ (x : List ℕ). get_or x 0 0) e in sym h ∙ s (omega arith)))
-same_word (c ∷ v) [] p q f g s t e = absurd (f.0 (let l = ap length e in let h = ap (λ (x : List ℕ). get_or x 0 0) e in h ∙ t (omega arith)))
-same_word (c ∷ v) (d ∷ w) p q f g s t e =
-    let head : c ≡ d = cc in
-    let tail : v ++ p ≡ w ++ q = cc in
-    let r = same_word v w p q f.1 g.1 s t tail in
-    let front = r.0 in (cc, r.1)
+-- the first word, of a text that is a word and what may stand behind one, ends where it does
+whole_end : (w rest : List ℕ) → LacksByte 32 w → Stops rest → WordEnd (w ++ rest) (length w)
+whole_end w rest whole stops =
+    record {
+      within = omega (arith, length-append w rest);
+      before = λ k h e. whole k h (sym (get_or_append_left w rest 0 k h) ∙ e);
+      found = after_word w rest stops;
+    }
+
+-- and nowhere else
+one_end : (text : List ℕ) (r s : ℕ) → WordEnd text r → WordEnd text s → r ≡ s
+one_end text r s a b =
+    let shorter : r < s → ⊥ = λ h. b.before r h (a.found (omega (arith, b.within))) in
+    let longer : s < r → ⊥ = λ h. a.before s h (b.found (omega (arith, a.within))) in omega arith
 
 -- a text cut where its first word ends
-pub cut_word : (text w rest : List ℕ) (r : ℕ) → WordEnd text r → Spaceless w → Stops rest → text ≡ w ++ rest → (take (r - 0) text ≡ w) × (take (length text - r) (drop r text) ≡ rest)
-cut_word text w rest r at f s e =
-    let end = end_at w rest r f s (subst (λ (t : List ℕ). WordEnd t r) e at) in
-    let from : length w ≡ r - 0 = omega arith in
-    (ap (take (r - 0)) e ∙ take_at w rest (r - 0) from, take_rest text r ∙ (ap (drop r) e ∙ drop_at w rest r (sym end)))
+pub cut_word : (text w rest : List ℕ) (r : ℕ) → WordEnd text r → LacksByte 32 w → Stops rest → text ≡ w ++ rest → (take r text ≡ w) × (drop r text ≡ rest)
+cut_word text w rest r at whole stops e =
+    let end = one_end (w ++ rest) (length w) r (whole_end w rest whole stops) (subst (λ (t : List ℕ). WordEnd t r) e at) in
+    (ap (take r) e ∙ take_at w rest r end, ap (drop r) e ∙ drop_at w rest r end)
 
-pub stops_there : (text : List ℕ) (r : ℕ) → WordEnd text r → Stops (take (length text - r) (drop r text))
-stops_there text r at h =
-    let rest = take_rest text r in
-    let long = ap length rest ∙ length-drop r text in
-    let here : get_or (drop r text) 0 0 ≡ get_or text r 0 = get_or-drop r text 0 0 ∙ ap (λ (k : ℕ). get_or text k 0) (add-zero r) in
-    ap (λ (t : List ℕ). get_or t 0 0) rest ∙ (here ∙ at.found (omega arith))
-
--- a decimal has no space
-pub decimal_spaceless : (limit : ℕ) (cs : List ℕ) (v : ℕ) → decimal_of limit cs ≡ Some v → Spaceless cs
-decimal_spaceless limit cs v e =
-    digits_spaceless cs (and_parts (all_digits cs) _ (and_parts _ _ (some_if _ v (digits_value cs) (sym e)).0).1).0
+-- a text begins with one word only
+pub same_word : (v w p q : List ℕ) → LacksByte 32 v → LacksByte 32 w → Stops p → Stops q → v ++ p ≡ w ++ q → (v ≡ w) × (p ≡ q)
+same_word v w p q a b s t e =
+    let cut = cut_word (v ++ p) w q (length v) (whole_end v p a s) b t e in (sym (take_at v p (length v) refl) ∙ cut.0, sym (drop_at v p (length v) refl) ∙ cut.1)
 
 -- a decimal before a word: where it is cut, and what follows
 stops_word : (word rest : List ℕ) → get_or word 0 0 ≡ 32 → Stops (word ++ rest)
@@ -73,41 +65,41 @@ stops_word [] rest e = absurd (omega arith)
 stops_word (c ∷ word) rest e = λ h. e
 
 pub before_cut : (text word : List ℕ) (r v : ℕ) (rest : List ℕ) → get_or word 0 0 ≡ 32 → WordEnd text r → DecimalBefore text word v rest →
-    (decimal_of (2 ^ 64) (take (r - 0) text) ≡ Some v) × (take (length text - r) (drop r text) ≡ word ++ rest)
+    (decimal_of (2 ^ 64) (take r text) ≡ Some v) × (drop r text ≡ word ++ rest)
 before_cut text word r v rest h at b =
-    let cut = cut_word text b.0 (word ++ rest) r at (decimal_spaceless (2 ^ 64) b.0 v b.2) (stops_word word rest h) b.1 in
-    (ap (decimal_of (2 ^ 64)) cut.0 ∙ b.2, cut.1)
+    let cut = cut_word text b.0 (word ++ rest) r at (decimal_whole (2 ^ 64) b.0 v b.2) (stops_word word rest h) b.1 in (ap (decimal_of (2 ^ 64)) cut.0 ∙ b.2, cut.1)
 
 pub before_same : (text word : List ℕ) (u v : ℕ) (p q : List ℕ) → get_or word 0 0 ≡ 32 → DecimalBefore text word u p → DecimalBefore text word v q → p ≡ q
 before_same text word u v p q h b d =
-    let same = same_word b.0 d.0 (word ++ p) (word ++ q) (decimal_spaceless (2 ^ 64) b.0 u b.2) (decimal_spaceless (2 ^ 64) d.0 v d.2) (stops_word word p h) (stops_word word q h) (sym b.1 ∙ d.1) in
+    let same = same_word b.0 d.0 (word ++ p) (word ++ q) (decimal_whole (2 ^ 64) b.0 u b.2) (decimal_whole (2 ^ 64) d.0 v d.2) (stops_word word p h) (stops_word word q h) (sym b.1 ∙ d.1) in
     append_cancel_left word p q same.1
 
 pub not_both : (limit : ℕ) (cs ds : List ℕ) (v : ℕ) → None ≡ decimal_of limit cs → cs ≡ ds → decimal_of limit ds ≡ Some v → ⊥
 not_both limit cs ds v n e f = let z : ◌≡◌ {A = ℕ} 0 1 = cc in omega arith
 
--- the words of a store: the first one, and what is left behind it
+-- words, each after one space: the first one, and what is left behind it
 words_stop : (ws : List (List ℕ)) → Stops (flat_map (λ w. 32 ∷ w) ws)
 words_stop [] = λ h. absurd (omega arith)
 words_stop (w ∷ ws) = λ h. refl
 
-abbrev pub FirstWord : List ℕ → Type 0
-FirstWord left =
-    (w : List ℕ) × (v : ℕ) × (rest : List ℕ) × Stops rest × (left ≡ 32 ∷ (w ++ rest)) × (decimal_of (2 ^ 32) w ≡ Some v) × ((us : List ℕ) × StoreSpelled rest us)
+module _ {V : Type 0} (spells : List ℕ → V → Type 0) where
+  -- a text that is words and not empty begins with one
+  abbrev pub Begun : List ℕ → Type 0
+  Begun left = (w : List ℕ) × (v : V) × (rest : List ℕ) × (us : List V) × FirstWord spells left w v rest × SpacedWords spells rest us
 
-first_from : (left : List ℕ) (ws : List (List ℕ)) (us : List ℕ) → 0 < length left → left ≡ flat_map (λ w. 32 ∷ w) ws → map (decimal_of (2 ^ 32)) ws ≡ map (λ v. Some v) us → FirstWord left
-first_from left [] us h e m = absurd (omega (arith, ap length e))
-first_from left (w ∷ ws) [] h e m = absurd cc
-first_from left (w ∷ ws) (u ∷ us) h e m =
-    let one : decimal_of (2 ^ 32) w ≡ Some u = cc in
-    let more : map (decimal_of (2 ^ 32)) ws ≡ map (λ v. Some v) us = cc in (w, u, flat_map (λ x. 32 ∷ x) ws, words_stop ws, e, one, (us, (ws, refl, more)))
+  pub begun : (left : List ℕ) (vs : List V) → 0 < length left → SpacedWords spells left vs → Begun left
+  begun left [] h ([], e, m) = absurd (omega (arith, ap length e))
+  begun left (v ∷ vs) h ([], e, m) = absurd m
+  begun left [] h (w ∷ ws, e, m) = absurd m
+  begun left (v ∷ vs) h (w ∷ ws, e, m) =
+      (w, v, flat_map (λ x. 32 ∷ x) ws, vs, record { text = e; whole = m.0.0; stops = words_stop ws; spelled = m.0.1 }, (ws, refl, m.1))
 
-pub first_word : (left us : List ℕ) → 0 < length left → StoreSpelled left us → FirstWord left
-first_word left us h s = first_from left s.0 us h s.1 s.2
+  pub rest_words : (left w rest : List ℕ) (v : V) (vs : List V) → FirstWord spells left w v rest → SpacedWords spells left vs → (us : List V) × SpacedWords spells rest us
+  rest_words left w rest v vs f s =
+      let k = begun left vs (omega (arith, ap length f.text)) s in
+      let both : w ++ rest ≡ k.0 ++ k.2 = ap (drop 1) (sym f.text ∙ k.4.text) in
+      let same = same_word w k.0 rest k.2 f.whole k.4.whole f.stops k.4.stops both in
+      (k.3, subst (λ (t : List ℕ). SpacedWords spells t k.3) (sym same.1) k.5)
 
-pub words_rest : (left rest w us : List ℕ) (v : ℕ) → StoreSpelled left us → Stops rest → left ≡ 32 ∷ (w ++ rest) → decimal_of (2 ^ 32) w ≡ Some v → (ts : List ℕ) × StoreSpelled rest ts
-words_rest left rest w us v s stop e f =
-    let k = first_word left us (omega (arith, ap length e)) s in
-    let both : w ++ rest ≡ k.0 ++ k.2 = ap (drop 1) (sym e ∙ k.4) in
-    let same = same_word w k.0 rest k.2 (decimal_spaceless (2 ^ 32) w v f) (decimal_spaceless (2 ^ 32) k.0 k.1 k.5) stop k.3 both in
-    (k.6.0, subst (λ (t : List ℕ). StoreSpelled t k.6.0) (sym same.1) k.6.1)
+  pub one_more : (left w rest : List ℕ) (v : V) (vs : List V) → FirstWord spells left w v rest → SpacedWords spells rest vs → SpacedWords spells left (v ∷ vs)
+  one_more left w rest v vs f s = (w ∷ s.0, f.text ∙ ap (λ (r : List ℕ). 32 ∷ (w ++ r)) s.1, ((f.whole, f.spelled), s.2))

@@ -57,28 +57,28 @@ no_refusal r e =
 
 looked : (h : Mix) (s : Session) (r : ℕ) (x : List ℕ) (t : SignatureLines) (g : Result ReadSignature Refusal) → SignatureRead t g → look_answer h s r x g ≡ codes "accepted" →
     (y : ReadSignature) × LinesOf (signature_of y) t
-    × ((seed l n : ℕ) → r ≡ node h n seed l 0 → Own h seed l n s.signer.levels (bits_asked h s x) (signature_of y) ⊎ LocatedCollision h n seed l (bits_asked h s x) (signature_of y))
+    × ((seed l n : ℕ) → r ≡ node h n seed l 0 → Own h seed l n s.tree.signer.levels (bits_asked h s x) (signature_of y) ⊎ LocatedCollision h n seed l (bits_asked h s x) (signature_of y))
 looked h s r x t (Ok y) read e =
-    let k = s.signer.levels in
+    let k = s.tree.signer.levels in
     let bs = bits_asked h s x in
     let yes_so = look_true (accepted h r k bs (signature_of y)) e in
     (y, read, λ seed l n root. own_or_located_lem h seed l n k bs (signature_of y) (subst (λ (v : ℕ). accepted h v k bs (signature_of y) ≡ true) root yes_so))
 looked h s r x t (Err f) read e = absurd (no_refusal f e)
 
 -- the bits that are signed are as many as were asked for
-bits_count : (h : Mix) (s : Session) (x : List ℕ) (i : ℕ) → Key i ≡ answer s.signer.levels (vec_items s.store) s.bits 2 → length (bits_asked h s x) ≡ s.bits
+bits_count : (h : Mix) (s : Session) (x : List ℕ) (i : ℕ) → Key i ≡ answer s.tree.signer.levels (vec_items s.store) s.tree.bits 2 → length (bits_asked h s x) ≡ s.tree.bits
 bits_count h s x i e =
-    let none = (key_answered s.signer.levels (vec_items s.store) s.bits 2 i e).0 in
-    let few = bits_taken s.bits (taken s.signer.levels (vec_items s.store) s.bits none).3 in
-    length-map-range_with_len (bit_at (bytes_of (h (text_row x)))) 0 (min s.bits 256) ∙ omega (arith, few.1)
+    let none = (key_answered s.tree.signer.levels (vec_items s.store) s.tree.bits 2 i e).0 in
+    let few = bits_taken s.tree.bits (taken s.tree.signer.levels (vec_items s.store) s.tree.bits none).3 in
+    length-map-range_with_len (bit_at (bytes_of (h (text_row x)))) 0 (min s.tree.bits 256) ∙ omega (arith, few.1)
 
-signs : (h : Mix) (s : Session) (x : List ℕ) (i : ℕ) → Key i ≡ answer s.signer.levels (vec_items s.store) s.bits 2 →
-    accepted h (node h s.bits (value_of s.signer.seed) s.signer.levels 0) s.signer.levels (bits_asked h s x) (signed h (value_of s.signer.seed) s.signer.levels i (bits_asked h s x)) ≡ true
+signs : (h : Mix) (s : Session) (x : List ℕ) (i : ℕ) → Key i ≡ answer s.tree.signer.levels (vec_items s.store) s.tree.bits 2 →
+    accepted h (node h s.tree.bits (value_of s.tree.signer.seed) s.tree.signer.levels 0) s.tree.signer.levels (bits_asked h s x) (signed h (value_of s.tree.signer.seed) s.tree.signer.levels i (bits_asked h s x)) ≡ true
 signs h s x i e =
-    let l = s.signer.levels in
-    let seed = value_of s.signer.seed in
+    let l = s.tree.signer.levels in
+    let seed = value_of s.tree.signer.seed in
     let bs = bits_asked h s x in
-    let k = key_answered l (vec_items s.store) s.bits 2 i e in
+    let k = key_answered l (vec_items s.store) s.tree.bits 2 i e in
     let below = ltb-true _ _ k.1 in
     subst (λ (n : ℕ). accepted h (node h n seed l 0) l bs (signed h seed l i bs) ≡ true) (bits_count h s x i e) (own_accepted_lem h seed l i bs (omega (arith, k.2, below)))
 
@@ -87,11 +87,11 @@ promised h s (Store v) t o a = tt
 promised h s (Levels v) t o a = tt
 promised h s Root t o a = tt
 promised h s (Sign x) t o a = λ i e.
-    let l = s.signer.levels in
+    let l = s.tree.signer.levels in
     let m = vec_items s.store in
-    let sig : ℕ → List ℕ = λ (k : ℕ). signature_text (signed h (value_of s.signer.seed) l k (bits_asked h s (vec_items x))) in
-    let next_is = (key_answered l m s.bits 2 i e).2 in
-    let text = ap (λ (d : Done). sign_spelled d (signed h (value_of s.signer.seed) l (next m) (bits_asked h s (vec_items x)))) (sym e) ∙ ap sig (sym next_is) in
+    let sig : ℕ → List ℕ = λ (k : ℕ). signature_text (signed h (value_of s.tree.signer.seed) l k (bits_asked h s (vec_items x))) in
+    let next_is = (key_answered l m s.tree.bits 2 i e).2 in
+    let text = ap (λ (d : Done). sign_spelled d (signed h (value_of s.tree.signer.seed) l (next m) (bits_asked h s (vec_items x)))) (sym e) ∙ ap sig (sym next_is) in
     (subst (λ (cs : List ℕ). Says o cs) text a, signs h s (vec_items x) i e)
 promised h s (Look r x) t o a = λ e.
     looked h s (value_of r) (vec_items x) t a.0 a.1 (says_same o _ _ a.2 e)

@@ -1,28 +1,25 @@
 -- How the lines that ask for something are written. Assumes nothing: these are definitions.
-use Rattle.std.specs.Prelude.{◌≡◌, ℕ, ◌^◌, ◌<◌, Bool, true, false, List, ◌∷◌, ◌++◌, map, length, Some, vec_items, codes, slice_index}
-use Rattle.std.specs.List.{flat_map}
+use Rattle.std.specs.Prelude.{◌≡◌, ℕ, ◌^◌, Bool, true, false, List, ◌++◌, Some, vec_items, codes}
+use Rattle.texts.specs.Spaced.{SpacedWords}
+use Rattle.tree.specs.declared.own.Tree.{Tree}
+use Rattle.hash.specs.Value.{value_of}
 use Rattle.texts.specs.Spelling.{hex, decimal_of}
 use Rattle.texts.specs.declared.command.Command.{Command}
 use Rattle.texts.specs.declared.command.Command.TheVariants.{Store, Levels, Root, Sign, Look}
-use Rattle.texts.specs.declared.command.Levels.{Levels as LevelsAsked}
 
 -- a decimal below 2^64, a word, and the rest
 abbrev pub DecimalBefore : (cs word : List ℕ) → ℕ → List ℕ → Type 0
 DecimalBefore cs word v rest = (d : List ℕ) × (cs ≡ d ++ (word ++ rest)) × (decimal_of (2 ^ 64) d ≡ Some v)
 
 -- three decimals, with the words between them
-abbrev pub LevelsSpelled : List ℕ → LevelsAsked → Type 0
-LevelsSpelled cs v =
-    (x : List ℕ) × (y : List ℕ) × DecimalBefore cs (codes " bits ") v.levels x × DecimalBefore x (codes " seed ") v.bits y
-    × (decimal_of (2 ^ 64) y ≡ Some v.seed)
-
--- nothing, or what begins with a space: what stands behind a whole word
-abbrev pub Stops : List ℕ → Type 0
-Stops cs = 0 < length cs → slice_index cs 0 ≡ 32
+abbrev pub LevelsSpelled : List ℕ → Tree → Type 0
+LevelsSpelled cs t =
+    (x : List ℕ) × (y : List ℕ) × DecimalBefore cs (codes " bits ") t.signer.levels x × DecimalBefore x (codes " seed ") t.bits y
+    × (decimal_of (2 ^ 64) y ≡ Some (value_of t.signer.seed))
 
 -- decimals below 2^32, each after one space
 abbrev pub StoreSpelled : List ℕ → List ℕ → Type 0
-StoreSpelled cs vs = (ws : List (List ℕ)) × (cs ≡ flat_map (λ w. 32 ∷ w) ws) × (map (decimal_of (2 ^ 32)) ws ≡ map (λ v. Some v) vs)
+StoreSpelled = SpacedWords (λ w v. decimal_of (2 ^ 32) w ≡ Some v)
 
 -- the four lines behind a `look` belong to it
 abbrev pub takes_lines : Command → Bool

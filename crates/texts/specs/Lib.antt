@@ -4,4 +4,5 @@ pub mod Commands
 pub mod Replies
 pub mod Sessions
 pub mod SignatureLines
+pub mod Spaced
 pub mod Spelling

@@ -25,25 +25,24 @@ use Rattle.texts.specs.declared.signature.SignatureLines.{SignatureLines}
 
 -- the signer and the number of bits are as they were
 abbrev pub SameSettings : (before after : Session) → Type 0
-SameSettings s s₁ = (s₁.signer ≡ s.signer) × (s₁.bits ≡ s.bits)
+SameSettings s s₁ = s₁.tree ≡ s.tree
 
 -- what a command leaves of a session
 abbrev pub Executed : Session → Command → Session → Type 0
 Executed s (Store v) s₁ = (vec_items s₁.store ≡ vec_items v) × SameSettings s s₁
-Executed s (Levels a) s₁ =
-    (s₁.signer.levels ≡ a.levels) × (value_of s₁.signer.seed ≡ a.seed) × (s₁.bits ≡ a.bits) × (vec_items s₁.store ≡ vec_items s.store)
+Executed s (Levels t) s₁ = (s₁.tree ≡ t) × (vec_items s₁.store ≡ vec_items s.store)
 Executed s Root s₁ = (vec_items s₁.store ≡ vec_items s.store) × SameSettings s s₁
-Executed s (Sign t) s₁ = (vec_items s₁.store ≡ stored s.signer.levels (vec_items s.store) s.bits 2) × SameSettings s s₁
+Executed s (Sign t) s₁ = (vec_items s₁.store ≡ stored s.tree.signer.levels (vec_items s.store) s.tree.bits 2) × SameSettings s s₁
 Executed s (Look r t) s₁ = (vec_items s₁.store ≡ vec_items s.store) × SameSettings s s₁
 
 -- where memory fails: the store is as it was, or the next key was reserved and stays so; the settings are as they were
 abbrev pub Failed : (before after : Session) → Type 0
 Failed s s₁ =
-    ((vec_items s₁.store ≡ vec_items s.store) ⊎ (vec_items s₁.store ≡ stored s.signer.levels (vec_items s.store) s.bits 2)) × SameSettings s s₁
+    ((vec_items s₁.store ≡ vec_items s.store) ⊎ (vec_items s₁.store ≡ stored s.tree.signer.levels (vec_items s.store) s.tree.bits 2)) × SameSettings s s₁
 
 -- the bits of a text that the session's keys sign
 abbrev pub bits_asked : Mix → Session → (text : List ℕ) → List Bool
-bits_asked h s t = bits_of_text h t s.bits
+bits_asked h s t = bits_of_text h t s.tree.bits
 
 -- a refusal, or else that text
 abbrev pub refusal_or : Option Refusal → List ℕ → List ℕ
@@ -53,17 +52,17 @@ refusal_or None cs = cs
 -- the answer to `root`
 abbrev pub root_answer : Mix → Session → List ℕ
 root_answer h s =
-    refusal_or (first (levels_refusal s.signer.levels) (bits_refusal s.bits)) (hex (bytes_of (node h s.bits (value_of s.signer.seed) s.signer.levels 0)))
+    refusal_or (tree_refusal s.tree.signer.levels s.tree.bits) (hex (bytes_of (node h s.tree.bits (value_of s.tree.signer.seed) s.tree.signer.levels 0)))
 
 -- the answer to `sign`: the signature is by the next key
 abbrev pub sign_answer : Mix → Session → (text : List ℕ) → List ℕ
 sign_answer h s t =
-    sign_spelled (answer s.signer.levels (vec_items s.store) s.bits 2)
-    (signed h (value_of s.signer.seed) s.signer.levels (next (vec_items s.store)) (bits_asked h s t))
+    sign_spelled (answer s.tree.signer.levels (vec_items s.store) s.tree.bits 2)
+    (signed h (value_of s.tree.signer.seed) s.tree.signer.levels (next (vec_items s.store)) (bits_asked h s t))
 
 -- the answer to `look`, by what was read of the lines behind it
 abbrev pub look_answer : Mix → Session → (root : ℕ) → (text : List ℕ) → Result ReadSignature Refusal → List ℕ
-look_answer h s r t (Ok g) = look_spelled (accepted h r s.signer.levels (bits_asked h s t) (signature_of g))
+look_answer h s r t (Ok g) = look_spelled (accepted h r s.tree.signer.levels (bits_asked h s t) (signature_of g))
 look_answer h s r t (Err e) = refusal_spelled e
 
 -- a text is given, and it is this one
@@ -84,13 +83,13 @@ Promised h s (Store v) t o = Unit {0}
 Promised h s (Levels a) t o = Unit {0}
 Promised h s Root t o = Unit {0}
 Promised h s (Sign x) t o =
-    let seed = value_of s.signer.seed in
-    let l = s.signer.levels in
+    let seed = value_of s.tree.signer.seed in
+    let l = s.tree.signer.levels in
     let bs = bits_asked h s (vec_items x) in
-    (i : ℕ) → Key i ≡ answer l (vec_items s.store) s.bits 2 →
-    Says o (signature_text (signed h seed l i bs)) × (accepted h (node h s.bits seed l 0) l bs (signed h seed l i bs) ≡ true)
+    (i : ℕ) → Key i ≡ answer l (vec_items s.store) s.tree.bits 2 →
+    Says o (signature_text (signed h seed l i bs)) × (accepted h (node h s.tree.bits seed l 0) l bs (signed h seed l i bs) ≡ true)
 Promised h s (Look r x) t o =
     let bs = bits_asked h s (vec_items x) in
     Says o (codes "accepted") →
     (g : ReadSignature) × LinesOf (signature_of g) t
-    × ((seed l n : ℕ) → value_of r ≡ node h n seed l 0 → Own h seed l n s.signer.levels bs (signature_of g) ⊎ LocatedCollision h n seed l bs (signature_of g))
+    × ((seed l n : ℕ) → value_of r ≡ node h n seed l 0 → Own h seed l n s.tree.signer.levels bs (signature_of g) ⊎ LocatedCollision h n seed l bs (signature_of g))

@@ -21,12 +21,9 @@ pub fn digest<H: RowHasher>(text: &[u8]) -> Number
 fn bits_of(heap: Global, number: &Number, count: u64) -> Result<Vec<bool>, AllocError>
     ensures { IfOk result (λ v. v.items ≡ first_bits (value_of number.now) (min count 256)) }
 {
-    let all = Number::BITS as u64;
-    let mut bits = Vec::new(heap);
-    for place in 0..count.min(all) {
-        bits.push(number.bit(place as usize))?;
-    }
-    Ok(bits)
+    (0..count.min(Number::BITS as u64))
+        .map(|place| number.bit(place as usize))
+        .collect(heap)
 }
 
 // The bits of a text that a key of so many bits signs: the first of its hash, so many or all that there are.

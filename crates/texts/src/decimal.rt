@@ -6,7 +6,7 @@ ghost use Rattle.texts.specs.Spelling.{is_digit, decimal_of};
 fn with_digit(value: u64, digit: u8) -> Option<u64>
     ensures { result ≡ (if is_digit digit && nat_lt (value * 10 + (digit - 48)) (2 ^ 64) then Some (value * 10 + (digit - 48)) else None) }
 {
-    if digit < b'0' || digit > b'9' {
+    if !digit.is_ascii_digit() {
         return None;
     }
     value.checked_mul(10)?.checked_add(u64::from(digit - b'0'))
@@ -19,7 +19,7 @@ pub fn read_decimal(text: &[u8]) -> Option<u64>
     if text.is_empty() {
         return None;
     }
-    let mut value: u64 = 0;
+    let mut value = 0;
     for digit in text {
         value = with_digit(value, *digit)?;
     }

@@ -6,7 +6,7 @@ ghost use Rattle.texts.specs.Spelling.{hex_digit, hex};
 use hash::Number;
 
 // The digit of a character, where it is one.
-fn value_of(digit: u8) -> Option<u8>
+fn digit_value(digit: u8) -> Option<u8>
     ensures { MatchOption result ((d : ℕ) → d < 16 → digit ≢ hex_digit d) (λ d. (d < 16) × (digit ≡ hex_digit d)) }
 {
     match digit {
@@ -23,11 +23,10 @@ pub fn read_hex(text: &[u8]) -> Option<Number>
     if text.len() != 64 {
         return None;
     }
+    let (pairs, _) = text.as_chunks::<2>();
     let mut bytes = [0; 32];
-    for i in 0..32usize {
-        let high = value_of(text[2 * i])?;
-        let low = value_of(text[2 * i + 1])?;
-        bytes[i] = high * 16 + low;
+    for (i, [high, low]) in pairs.iter().enumerate() {
+        bytes[i] = digit_value(*high)? * 16 + digit_value(*low)?;
     }
     Some(Number::from(bytes))
 }

@@ -1,7 +1,7 @@
 // What the lines of the program ask, on values: the store, the signer and its bits, and what is signed and looked at with them.
 ghost use Rattle.std.specs.Prelude.{◌≡◌, ℕ, true, ◌⊎◌, [], IfOk, string_bytes, Result, MatchResult};
 ghost use Rattle.hash.specs.Value.{value_of};
-ghost use Rattle.keys.specs.Refusals.{first, levels_refusal, bits_refusal, Unless};
+ghost use Rattle.keys.specs.Refusals.{tree_refusal, Unless};
 ghost use Rattle.keys.specs.declared.refusal.Refusal.{Refusal};
 ghost use Rattle.tree.specs.Tree.{node};
 ghost use Rattle.signatures.specs.Rows.{LocatedCollision};
@@ -17,19 +17,18 @@ ghost use Rattle.texts.specs.declared.signature.ReadSignature.{ReadSignature};
 use crate::bits::text_bits;
 use crate::command::Command;
 use crate::reply::{look_text, root_text, sign_text};
-use crate::signature::SignatureLines;
+use crate::signature::{ReadError, SignatureLines};
 use hash::{Number, RowHasher};
 use keys::{Refusal, Signer};
 use signatures::{SignatureRoom, SignatureView};
 use signer::{Done, look, refuse, sign};
 use std::alloc::{AllocError, Global};
-use tree::root;
+use tree::Tree;
 
 // What the next lines are asked with.
 #[derive(Drop)]
 pub struct Session {
-    signer: Signer,
-    bits: u64,
+    tree: Tree,
     store: Vec<u32>,
     room: SignatureRoom,
 }
@@ -38,15 +37,17 @@ impl Session {
     // No store, no levels, no bits, and the seed 0.
     pub fn new(heap: Global) -> Session
         ensures store { result.store.items ≡ [] }
-        ensures signer { (result.signer.levels ≡ 0) × (result.bits ≡ 0) × (value_of result.signer.seed ≡ 0) }
+        ensures signer { (result.tree.signer.levels ≡ 0) × (result.tree.bits ≡ 0) × (value_of result.tree.signer.seed ≡ 0) }
         ensures room { held result.room ≡ blank }
     {
         Session {
-            signer: Signer {
-                levels: 0,
-                seed: Number::from(0),
+            tree: Tree {
+                signer: Signer {
+                    levels: 0,
+                    seed: Number::from(0),
+                },
+                bits: 0,
             },
-            bits: 0,
             store: Vec::new(heap),
             room: SignatureRoom::new(),
         }
@@ -54,24 +55,24 @@ impl Session {
 
     // The root of the signer's tree.
     pub fn root<H: RowHasher>(&self) -> Result<Number, Refusal>
-        ensures { Unless (first (levels_refusal self.now.signer.levels) (bits_refusal self.now.bits)) result (λ v. value_of v ≡ node H.mix self.now.bits (value_of self.now.signer.seed) self.now.signer.levels 0) }
+        ensures { Unless (tree_refusal self.now.tree.signer.levels self.now.tree.bits) result (λ v. value_of v ≡ node H.mix self.now.tree.bits (value_of self.now.tree.signer.seed) self.now.tree.signer.levels 0) }
     {
-        root::<H>(&self.signer, self.bits)
+        self.tree.root::<H>()
     }
 
     // Signs a text. Where memory fails nothing is changed.
     pub fn sign<H: RowHasher>(&mut self, heap: Global, text: &[u8]) -> Result<Done, AllocError>
-        ensures answer { IfOk result (λ d. d ≡ answer self.old.signer.levels self.old.store.items self.old.bits 2) }
-        ensures store { MatchResult result (λ _. self.new.store.items ≡ stored self.old.signer.levels self.old.store.items self.old.bits 2) (λ _. self.new.store.items ≡ self.old.store.items) }
-        ensures room { MatchResult result (λ d. RoomSays H.mix (value_of self.old.signer.seed) self.old.signer.levels (bits_of_text H.mix text.now self.old.bits) d self.old.room self.new.room) (λ _. self.new.room ≡ self.old.room) }
-        ensures accepted { IfOk result (λ d. GivenAccepted H.mix (value_of self.old.signer.seed) self.old.signer.levels (bits_of_text H.mix text.now self.old.bits) d self.new.room) }
-        ensures same { (self.new.signer ≡ self.old.signer) × (self.new.bits ≡ self.old.bits) }
+        ensures answer { IfOk result (λ d. d ≡ answer self.old.tree.signer.levels self.old.store.items self.old.tree.bits 2) }
+        ensures store { MatchResult result (λ _. self.new.store.items ≡ stored self.old.tree.signer.levels self.old.store.items self.old.tree.bits 2) (λ _. self.new.store.items ≡ self.old.store.items) }
+        ensures room { MatchResult result (λ d. RoomSays H.mix (value_of self.old.tree.signer.seed) self.old.tree.signer.levels (bits_of_text H.mix text.now self.old.tree.bits) d self.old.room self.new.room) (λ _. self.new.room ≡ self.old.room) }
+        ensures accepted { IfOk result (λ d. GivenAccepted H.mix (value_of self.old.tree.signer.seed) self.old.tree.signer.levels (bits_of_text H.mix text.now self.old.tree.bits) d self.new.room) }
+        ensures same { self.new.tree ≡ self.old.tree }
     {
-        if let Err(refusal) = refuse(self.signer.levels, &self.store, self.bits) {
+        if let Err(refusal) = refuse(self.tree.signer.levels, &self.store, self.tree.bits) {
             return Ok(Done::Refused(refusal));
         }
-        let bits = text_bits::<H>(heap, text, self.bits)?;
-        Ok(sign::<H>(&self.signer, &bits, &mut self.store, &mut self.room))
+        let bits = text_bits::<H>(heap, text, self.tree.bits)?;
+        Ok(sign::<H>(&self.tree.signer, &bits, &mut self.store, &mut self.room))
     }
 
     // Looks at a signature of a text. If it is accepted, then of every signer whose root this is it is that signer's own, or two rows are shown that hash to the same.
@@ -82,11 +83,11 @@ impl Session {
         text: &[u8],
         signature: SignatureView<'_>,
     ) -> Result<bool, AllocError>
-        ensures answer { IfOk result (λ b. b ≡ accepted H.mix (value_of root.now) self.now.signer.levels (bits_of_text H.mix text.now self.now.bits) (viewed signature.entry)) }
-        ensures own { IfOk result (λ b. (s l n : ℕ) → b ≡ true → value_of root.now ≡ node H.mix n s l 0 → Own H.mix s l n self.now.signer.levels (bits_of_text H.mix text.now self.now.bits) (viewed signature.entry) ⊎ LocatedCollision H.mix n s l (bits_of_text H.mix text.now self.now.bits) (viewed signature.entry)) }
+        ensures answer { IfOk result (λ b. b ≡ accepted H.mix (value_of root.now) self.now.tree.signer.levels (bits_of_text H.mix text.now self.now.tree.bits) (viewed signature.entry)) }
+        ensures own { IfOk result (λ b. (s l n : ℕ) → b ≡ true → value_of root.now ≡ node H.mix n s l 0 → Own H.mix s l n self.now.tree.signer.levels (bits_of_text H.mix text.now self.now.tree.bits) (viewed signature.entry) ⊎ LocatedCollision H.mix n s l (bits_of_text H.mix text.now self.now.tree.bits) (viewed signature.entry)) }
     {
-        let bits = text_bits::<H>(heap, text, self.bits)?;
-        Ok(look::<H>(root, self.signer.levels, &bits, signature))
+        let bits = text_bits::<H>(heap, text, self.tree.bits)?;
+        Ok(look::<H>(root, self.tree.signer.levels, &bits, signature))
     }
 
     // The text that answers a `look`, from the four lines behind it.
@@ -99,12 +100,13 @@ impl Session {
     ) -> Result<String, AllocError>
         ensures { IfOk result (λ s. (g : Result ReadSignature Refusal) × SignatureRead lines.now g × (string_bytes s ≡ look_answer H.mix self.now (value_of root.now) text.now g)) }
     {
-        match lines.read(heap)? {
+        match lines.read(heap) {
             Ok(signature) => {
                 let accepted = self.look::<H>(heap, root, text, signature.view())?;
                 String::from_str(heap, look_text(accepted))
             }
-            Err(refusal) => format!(in heap; "{refusal}"),
+            Err(ReadError::Refused(refusal)) => format!(in heap; "{refusal}"),
+            Err(ReadError::Memory(error)) => Err(error),
         }
     }
 
@@ -124,12 +126,8 @@ impl Session {
                 self.store = store;
                 Ok(None)
             }
-            Command::Levels(asked) => {
-                self.signer = Signer {
-                    levels: asked.levels,
-                    seed: Number::from(asked.seed),
-                };
-                self.bits = asked.bits;
+            Command::Levels(tree) => {
+                self.tree = tree;
                 Ok(None)
             }
             Command::Root => Ok(Some(root_text(heap, self.root::<H>())?)),

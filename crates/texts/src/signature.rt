@@ -1,8 +1,10 @@
 // The four lines of a signature.
-ghost use Rattle.std.specs.Prelude.{◌≡◌, ℕ, ◌+◌, min, [], IfOk, MatchOption};
+ghost use Rattle.std.specs.Prelude.{◌≡◌, ℕ, ◌+◌, min, [], Ok, Err, IfOk, IsErrOf, MatchOption};
+ghost use Rattle.keys.specs.declared.refusal.Refusal.{Refusal};
 ghost use Rattle.keys.specs.declared.refusal.Refusal.TheVariants.{Line};
 ghost use Rattle.signatures.specs.Views.{viewed};
 ghost use Rattle.texts.specs.SignatureLines.{signature_of, KeySpelled, SignatureRead};
+ghost use Rattle.texts.specs.declared.signature.ReadError.TheVariants.{Refused, Memory};
 
 use crate::decimal::read_decimal;
 use crate::numbers::read_numbers;
@@ -38,9 +40,30 @@ impl ReadSignature {
 pub fn read_key(line: &[u8]) -> Option<u64>
     ensures { MatchOption result ((k : ℕ) → KeySpelled line.now k → ⊥) (λ k. KeySpelled line.now k) }
 {
-    let digits = after(line, b"key ")?;
-    let key = read_decimal(digits)?;
-    Some(key)
+    read_decimal(after(line, b"key ")?)
+}
+
+// Why a signature was not read: a line of it is none, or memory failed.
+#[derive(Clone, Copy, Debug, PartialEq, Eq)]
+pub enum ReadError {
+    Refused(Refusal),
+    Memory(AllocError),
+}
+
+impl From<Refusal> for ReadError {
+    ghost from_gives = { λ r e. e ≡ Refused r };
+
+    fn from(refusal: Refusal) -> ReadError {
+        ReadError::Refused(refusal)
+    }
+}
+
+impl From<AllocError> for ReadError {
+    ghost from_gives = { λ a e. e ≡ Memory a };
+
+    fn from(error: AllocError) -> ReadError {
+        ReadError::Memory(error)
+    }
 }
 
 // The four lines that follow a `look`; one that is not there is empty. `first` is the number of the first.
@@ -76,26 +99,19 @@ impl SignatureLines {
     }
 
     // The signature, or the refusal of the first line that cannot be read.
-    pub fn read(&self, heap: Global) -> Result<Result<ReadSignature, Refusal>, AllocError>
-        ensures { IfOk result (λ s. SignatureRead self.now s) }
+    pub fn read(&self, heap: Global) -> Result<ReadSignature, ReadError>
+        ensures read { IfOk result (λ s. SignatureRead self.now (Ok s)) }
+        ensures refused { (r : Refusal) → IsErrOf result (Refused r) → SignatureRead self.now (Err r) }
     {
-        let Some(key) = read_key(&self.key) else {
-            return Ok(Err(self.refusal(0)));
-        };
-        let Some(parts) = read_numbers(heap, b"parts", &self.parts)? else {
-            return Ok(Err(self.refusal(1)));
-        };
-        let Some(others) = read_numbers(heap, b"others", &self.others)? else {
-            return Ok(Err(self.refusal(2)));
-        };
-        let Some(path) = read_numbers(heap, b"path", &self.path)? else {
-            return Ok(Err(self.refusal(3)));
-        };
-        Ok(Ok(ReadSignature {
+        let key = read_key(&self.key).ok_or(self.refusal(0))?;
+        let parts = read_numbers(heap, b"parts", &self.parts)?.ok_or(self.refusal(1))?;
+        let others = read_numbers(heap, b"others", &self.others)?.ok_or(self.refusal(2))?;
+        let path = read_numbers(heap, b"path", &self.path)?.ok_or(self.refusal(3))?;
+        Ok(ReadSignature {
             key,
             parts,
             others,
             path,
-        }))
+        })
     }
 }

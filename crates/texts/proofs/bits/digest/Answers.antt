@@ -7,7 +7,7 @@ pub loop-byte-preserved : goal.loop-byte-preserved
 loop-byte-preserved g c =
     let text = c.args.text.now in
     let i = c.loop-byte.byte-index in
-    let byte = c.from_u64.ensures ∙ c.from.ensures in
+    let byte = c.from-in-loop-byte.ensures ∙ c.from.ensures in
     let more = c.absorb.ensures (4 ∷ take i text) c.loop-byte.invariant in
     let t = take_more text i 0 (omega arith) in rw t (rw byte at more)
 

@@ -1,19 +1,24 @@
 -- What begins as a command and cannot be read on is none; nothing follows the word `root`.
-use Rattle.std.proofs.Common.{ℕ, List, ◌++◌, codes, sym, ap, ◌∙◌}
-use Rattle.std.proofs.lemmas.List.{nil_from_length}
-use Rattle.std.proofs.lemmas.Option.{MatchOption-at_none}
-use Rattle.std.proofs.lemmas.Bool.{eqb-true}
+use Rattle.std.proofs.Common.{◌≡◌, ℕ, List, sym, Some, None, Option, MatchOption, IsSomeAnd, subst}
+use Rattle.texts.specs.Commands.{Spelled}
+use Rattle.texts.specs.declared.command.Command.{Command}
 use Rattle.texts.proofs.Commanded.{no_levels, no_store}
 use Rattle.texts.proofs.command.read_command.Goals as goal
 
-pub returns-in_default-read_levels : goal.returns-in_default-read_levels
-returns-in_default-read_levels c = no_levels c.args.line.now c.in-Some-after-2.text.now c.in-Some-after-2.ensures c.in_default-read_levels.ensures
+-- what was read, put into a command
+mapped : {A : Type 0} {P : A → Command → Type 0} {N : Type 0} {Is : A → Type 0} (cs : List ℕ) (o : Option A) (r : Option Command) →
+    MatchOption o (r ≡ None) (λ x. IsSomeAnd r (P x)) → MatchOption o N Is → (N → (c : Command) → Spelled cs c → ⊥) → ((x : A) (c : Command) → P x c → Is x → Spelled cs c) →
+    MatchOption r ((c : Command) → Spelled cs c → ⊥) (Spelled cs)
+mapped cs None r m read none some = subst (λ (x : Option Command). MatchOption x ((c : Command) → Spelled cs c → ⊥) (Spelled cs)) (sym m) (none read)
+mapped cs (Some x) (Some c) m read none some = some x c m read
+mapped cs (Some x) None m read none some = absurd m
 
-pub returns-in_default-2 : goal.returns-in_default-2
-returns-in_default-2 c =
-    no_store c.args.line.now c.in-Some-after-3.text.now c.in-Some-after-3.ensures (MatchOption-at_none _ _ c.in_default-2.is c.in_ok-numbers.ensures)
+pub returns-in-Some-after-2 : goal.returns-in-Some-after-2
+returns-in-Some-after-2 c =
+    mapped c.args.line.now c.read_levels.result c.map.result c.map.ensures.cases c.read_levels.ensures (no_levels c.args.line.now c.in-Some-after-2.text.now c.in-Some-after-2.ensures)
+    (λ v d e s. subst (λ (k : Command). Spelled c.args.line.now k) (sym e) (c.in-Some-after-2.text.now, c.in-Some-after-2.ensures, s))
 
-pub returns-then-is_empty : goal.returns-then-is_empty
-returns-then-is_empty c =
-    let none = nil_from_length c.in-Some-after-4.text.now (eqb-true _ _ (sym c.is_empty.ensures ∙ c.if-is_empty.true)) in
-    c.in-Some-after-4.ensures ∙ ap (λ (t : List ℕ). codes "root" ++ t) none
+pub returns-in-Some-after-3 : goal.returns-in-Some-after-3
+returns-in-Some-after-3 c =
+    mapped c.args.line.now c.in_ok-read_words.field-0 c.map-in-Some-after-3.result c.map-in-Some-after-3.ensures.cases c.in_ok-read_words.ensures (no_store c.args.line.now c.in-Some-after-3.text.now c.in-Some-after-3.ensures)
+    (λ v d e s. subst (λ (k : Command). Spelled c.args.line.now k) (sym e) (c.in-Some-after-3.text.now, c.in-Some-after-3.ensures, s))

@@ -1,25 +1,15 @@
 -- The root ends where the first word does.
-use Rattle.std.proofs.Common.{◌≡◌, ℕ, ◌-◌, List, ◌++◌, codes, sym, refl, ap, ◌∙◌, arith}
+use Rattle.std.proofs.Common.{◌++◌, codes, refl, ◌∙◌}
+use Rattle.std.proofs.lemmas.Option.{MatchOption-at_none}
 use Rattle.texts.specs.Spelling.{hex}
-use Rattle.texts.proofs.Cuts.{cut_word, hex_spaceless}
-use Rattle.texts.proofs.Lines.{cut_at}
+use Rattle.texts.proofs.Cuts.{cut_word, hex_whole}
 use Rattle.texts.proofs.command.read_look.Goals as goal
+use Rattle.texts.proofs.command.read_look.Goals.{in_default-via-in-Some+in_default, in_default-via-in_default}
 
 pub returns-in_default : goal.returns-in_default
 returns-in_default c n t e =
-    c.in_default.ensures n (cut_word c.args.text.now (hex n.bytes) (codes " " ++ t) c.word_end-end.result c.word_end-end.ensures (hex_spaceless n.bytes) (λ h. refl) e).0
-
-pub returns-in_default-after : goal.returns-in_default-after
-returns-in_default-after c n t e =
-    c.in_default-after.ensures t (cut_word c.args.text.now (hex n.bytes) (codes " " ++ t) c.word_end-end.result c.word_end-end.ensures (hex_spaceless n.bytes) (λ h. refl) e).1
-
-pub returns : goal.returns
-returns c cs e =
-    let text = c.args.text.now in
-    let rest = c.in-Some-after.rest.now in
-    let end = c.word_end-end.result in
-    let from : end - 0 ≡ end = omega arith in
-    let root = rw from at c.in-Some.ensures in
-    let cut = cut_at text (codes " ") rest end c.in-Some-after.ensures in
-    let copy = c.in_ok-from_slice.ensures.items in
-    e ∙ ap (λ (t : List ℕ). codes "look " ++ t) (cut ∙ (ap (λ (r : List ℕ). r ++ (codes " " ++ rest)) root ∙ ap (λ (t : List ℕ). hex c.in-Some.root.bytes ++ (codes " " ++ t)) (sym copy)))
+    let cut = cut_word c.args.text.now (hex n.bytes) (codes " " ++ t) c.word_end.result c.word_end.ensures (hex_whole n.bytes) (λ h. refl) e in
+    elim c.in_default.branch [
+      | in_default-via-in-Some+in_default w ↦ MatchOption-at_none _ _ w.in_default.is-1 c.after.ensures t (c.split_at.ensures.back ∙ cut.1)
+      | in_default-via-in_default w ↦ MatchOption-at_none _ _ w.in_default.is-0 c.read_hex.ensures n (c.split_at.ensures.front ∙ cut.0)
+    ]

@@ -30,12 +30,12 @@ pub returns-in_ok-sign_text-in-Sign : goal.returns-in_ok-sign_text-in-Sign
 returns-in_ok-sign_text-in-Sign g c =
     let h = g.H.RowHasher.mix in
     let self = c.args.self.now in
-    let s = value_of self.signer.seed in
-    let l = self.signer.levels in
+    let s = value_of self.tree.signer.seed in
+    let l = self.tree.signer.levels in
     let m = vec_items self.store in
     let signs = c.in_ok-done-in-Sign.ensures in
-    let text = c.in_ok-sign_text-in-Sign.ensures ∙ spelled h s l self.bits m (bits_of_text h c.deref.result.now self.bits) c.in_ok-done-in-Sign.done self.room c.sign.new.self.room signs.answer signs.room in
-    let whole = text ∙ ap (λ (t : List ℕ). sign_spelled (answer l m self.bits 2) (signed h s l (next m) (bits_of_text h t self.bits))) c.deref.ensures.value in
+    let text = c.in_ok-sign_text-in-Sign.ensures ∙ spelled h s l self.tree.bits m (bits_of_text h c.deref.result.now self.tree.bits) c.in_ok-done-in-Sign.done self.room c.sign.new.self.room signs.answer signs.room in
+    let whole = text ∙ ap (λ (t : List ℕ). sign_spelled (answer l m self.tree.bits 2) (signed h s l (next m) (bits_of_text h t self.tree.bits))) c.deref.ensures.value in
     let asked = sym c.in-Sign.is in
     let answered = subst (λ (k : Command). Answered h self k c.args.lines.now (Some c.in_ok-sign_text-in-Sign.field-0)) asked whole in
     record {
@@ -53,7 +53,7 @@ returns-in_ok-look_at-in-Look g c =
     let whole = found.2 ∙ ap (λ (t : List ℕ). look_answer h self (value_of c.in-Look.root) t found.0) c.deref-in-Look.ensures.value in
     let answered = subst (λ (k : Command). Answered h self k c.args.lines.now (Some c.in_ok-look_at-in-Look.field-0)) asked (found.0, found.1, whole) in
     record {
-      session = subst (λ (k : Command). Executed self k self) asked (refl, (refl, refl));
+      session = subst (λ (k : Command). Executed self k self) asked (refl, refl);
       text = answered;
       promised = promised h self c.args.command c.args.lines.now (Some c.in_ok-look_at-in-Look.field-0) answered;
     }

@@ -1,12 +1,21 @@
--- The lines are refused as they were read.
-use Rattle.std.proofs.Common.{Err, Result, subst}
+-- What is looked at is what was read, and the lines are refused as they were read.
+use Rattle.std.proofs.Common.{Ok, Err, refl, ap, ◌∙◌}
 use Rattle.std.proofs.lemmas.Result.{IfOk-weaker}
-use Rattle.keys.specs.declared.refusal.Refusal.{Refusal}
-use Rattle.texts.specs.SignatureLines.{SignatureRead}
-use Rattle.texts.specs.declared.signature.ReadSignature.{ReadSignature}
+use Rattle.hash.specs.Value.{value_of}
+use Rattle.signatures.specs.Signatures.{Signature, accepted}
+use Rattle.texts.specs.Replies.{look_spelled}
+use Rattle.texts.specs.Sessions.{bits_asked}
 use Rattle.texts.proofs.session.Session.look_at.Goals as goal
 
-pub returns-in-Err : goal.returns-in-Err
-returns-in-Err g c =
-    let bad = subst (λ (x : Result ReadSignature Refusal). SignatureRead c.args.lines.now x) c.in-Err.is c.in_ok-signature.ensures in
-    IfOk-weaker c.format.result _ _ (λ s e. (Err c.in-Err.refusal, bad, e)) c.format.ensures.ok
+pub returns-in_ok-accepted-in-Ok : goal.returns-in_ok-accepted-in-Ok
+returns-in_ok-accepted-in-Ok g c =
+    let h = g.H.RowHasher.mix in
+    let self = c.args.self.now in
+    let seen = ap (λ (s : Signature). accepted h (value_of c.args.root.now) self.tree.signer.levels (bits_asked h self c.args.text.now) s) c.view.ensures in
+    IfOk-weaker c.from_str.result _ _
+    (λ s e. (Ok c.in-Ok.signature, c.in-Ok.ensures.read, e ∙ (c.look_text.ensures ∙ ap look_spelled (c.in_ok-accepted-in-Ok.ensures.answer ∙ seen)))) c.from_str.ensures.ok
+
+pub returns-in-Err-Refused : goal.returns-in-Err-Refused
+returns-in-Err-Refused g c =
+    let bad = c.in-Err-Refused.ensures.refused c.in-Err-Refused.refusal (rw c.in-Err-Refused.field-0-is refl) in
+    IfOk-weaker c.format.result _ _ (λ s e. (Err c.in-Err-Refused.refusal, bad, e)) c.format.ensures.ok

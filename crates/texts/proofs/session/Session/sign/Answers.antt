@@ -16,9 +16,9 @@ pub returns : goal.returns
 returns g c =
     let h = g.H.RowHasher.mix in
     let self = c.args.self.now in
-    let l = self.signer.levels in
-    let s = value_of self.signer.seed in
-    let n = self.bits in
+    let l = self.tree.signer.levels in
+    let s = value_of self.tree.signer.seed in
+    let n = self.tree.bits in
     let m = vec_items self.store in
     let none : None ≡ refusal l m n = (unrefused _ _ _ c.in_default.ensures).0 ∙ ap (λ (x : List ℕ). refusal l x n) c.deref.ensures.value in
     let few = bits_taken n (taken l m n none).3 in
@@ -31,5 +31,5 @@ returns g c =
       store = with_items_is self.store c.sign.new.store (c.sign.auto.store ∙ c.deref_mut.ensures.len) ∙ (c.sign.ensures.store ∙ same_at (λ x k. stored l x k 2) lent count);
       room = subst (λ (bs : List Bool). RoomSays h s l bs c.sign.result self.room c.sign.new.room) row c.sign.ensures.room;
       accepted = subst (λ (bs : List Bool). GivenAccepted h s l bs c.sign.result c.sign.new.room) row c.sign.ensures.accepted;
-      same = (refl, refl);
+      same = refl;
     }

@@ -1,35 +1,37 @@
 -- The lines before the one that is refused were read.
-use Rattle.std.proofs.Common.{ℕ, ◌<◌, List, map, vec_items, codes, sym, subst, arith, below_none, below_more}
+use Rattle.std.proofs.Common.{◌≡◌, ℕ, List, Ok, Err, None, Some, Option, Result, IsErrOf, IsErrAnd, map, vec_items, codes, sym, ◌∙◌, subst, arith, below_none, below_more}
+use Rattle.std.specs.Option.{ok_or}
+use Rattle.std.proofs.lemmas.Option.{MatchOption-at_none, MatchOption-at_some}
 use Rattle.hash.specs.Value.{value_of}
+use Rattle.keys.specs.declared.refusal.Refusal.{Refusal}
 use Rattle.texts.specs.SignatureLines.{KeySpelled, Readable}
+use Rattle.texts.specs.declared.signature.ReadError.{ReadError}
+use Rattle.texts.specs.declared.signature.ReadError.TheVariants.{Refused}
 use Rattle.texts.proofs.Lines.{line_some, line_none}
 use Rattle.texts.proofs.signature.SignatureLines.read.Goals as goal
-use Rattle.texts.proofs.signature.SignatureLines.read.Goals.{In-Some, In-Some-2}
 
-one : (c : goal.In-Some) → (j : ℕ) → j < 1 → Readable c.args.self.now j
-one c =
-    let P = Readable c.args.self.now in
-    below_more P 0 (below_none P) (c.in-Some.key, subst (λ (cs : List ℕ). KeySpelled cs c.in-Some.key) c.deref.ensures.value c.in-Some.ensures)
+-- the refusal that is handed on is the one that stands for a line which is none
+handed_on : {A B : Type 0} (result : Result A ReadError) (o : Option B) (x y r : Refusal) → ◌≡◌ {A = Result B Refusal} (Err x) (ok_or o y) → o ≡ None → IsErrAnd result (λ e. e ≡ Refused x) →
+    IsErrOf result (Refused r) → r ≡ y
+handed_on (Err e) None x y r v n from is = cc
+handed_on (Ok a) None x y r v n from is = absurd from
+handed_on result (Some b) x y r v n from is = cc
 
-two : (c : goal.In-Some-2) → (j : ℕ) → j < 2 → Readable c.args.self.now j
-two c =
-    below_more (Readable c.args.self.now) 1 (one (goal.at.In-Some-2 c).In-Some)
-    (line_some (λ v. map value_of (vec_items v)) (codes "parts") c.deref-2.result.now (vec_items c.args.self.now.parts) c.in-Some-2.parts c.deref-2.ensures.value c.in-Some-2.is c.in_ok-parts.ensures)
+pub returns-in_err-key-clause-refused : goal.returns-in_err-key-clause-refused
+returns-in_err-key-clause-refused c r e =
+    let none = c.in_err-key.ensures.ok_part in
+    let is = handed_on c.from_residual.result c.read_key.result c.in_err-key.field-0.0 c.refusal.result r c.in_err-key.ensures.value none c.from_residual.ensures.1 e in
+    (0, omega arith, below_none (Readable c.args.self.now), λ k. MatchOption-at_none _ _ none c.read_key.ensures k.0 (subst (λ (cs : List ℕ). KeySpelled cs k.0) (sym c.deref.ensures.value) k.1), is ∙ c.refusal.ensures)
 
-pub returns-in_default : goal.returns-in_default
-returns-in_default c =
-    (0, omega arith, below_none (Readable c.args.self.now), λ r. c.in_default.ensures r.0 (subst (λ (cs : List ℕ). KeySpelled cs r.0) (sym c.deref.ensures.value) r.1), c.refusal.ensures)
-
-pub returns-in_default-2 : goal.returns-in_default-2
-returns-in_default-2 c =
-    (1, omega arith, one (goal.at.returns-in_default-2 c).In-Some, line_none (λ v. map value_of (vec_items v)) (codes "parts") c.deref-2.result.now (vec_items c.args.self.now.parts) c.deref-2.ensures.value c.in_default-2.is c.in_ok-parts.ensures, c.refusal-in_default-2.ensures)
-
-pub returns-in_default-3 : goal.returns-in_default-3
-returns-in_default-3 c =
-    (2, omega arith, two (goal.at.returns-in_default-3 c).In-Some-2, line_none (λ v. map value_of (vec_items v)) (codes "others") c.deref-3.result.now (vec_items c.args.self.now.others) c.deref-3.ensures.value c.in_default-3.is c.in_ok-others.ensures, c.refusal-in_default-3.ensures)
-
-pub returns-in_default-4 : goal.returns-in_default-4
-returns-in_default-4 c =
-    let three = below_more (Readable c.args.self.now) 2 (two (goal.at.returns-in_default-4 c).In-Some-2)
-    (line_some (λ v. map value_of (vec_items v)) (codes "others") c.deref-3.result.now (vec_items c.args.self.now.others) c.in-Some-3.others c.deref-3.ensures.value c.in-Some-3.is c.in_ok-others.ensures) in
-    (3, omega arith, three, line_none (λ v. map value_of (vec_items v)) (codes "path") c.deref-4.result.now (vec_items c.args.self.now.path) c.deref-4.ensures.value c.in_default-4.is c.in_ok-path.ensures, c.refusal-in_default-4.ensures)
+pub returns-in_err-path-clause-refused : goal.returns-in_err-path-clause-refused
+returns-in_err-path-clause-refused c r e =
+    let t = c.args.self.now in
+    let none = c.in_err-path.ensures.ok_part in
+    let is = handed_on c.from_residual-in_err-path.result c.in_ok-read_numbers-3.field-0 c.in_err-path.field-0.0 c.refusal-4.result r c.in_err-path.ensures.value none c.from_residual-in_err-path.ensures.1 e in
+    let key = MatchOption-at_some _ _ c.in_ok-key.key c.in_ok-key.ensures.ok_part c.read_key.ensures in
+    let one = below_more (Readable t) 0 (below_none (Readable t)) (c.in_ok-key.key, subst (λ (cs : List ℕ). KeySpelled cs c.in_ok-key.key) c.deref.ensures.value key) in
+    let two = below_more (Readable t) 1 one
+    (line_some (λ v. map value_of (vec_items v)) (codes "parts") c.deref-2.result.now (vec_items t.parts) c.in_ok-parts.parts c.deref-2.ensures.value c.in_ok-parts.ensures.ok_part c.in_ok-read_numbers.ensures) in
+    let three = below_more (Readable t) 2 two
+    (line_some (λ v. map value_of (vec_items v)) (codes "others") c.deref-3.result.now (vec_items t.others) c.in_ok-others.others c.deref-3.ensures.value c.in_ok-others.ensures.ok_part c.in_ok-read_numbers-2.ensures) in
+    (3, omega arith, three, line_none (λ v. map value_of (vec_items v)) (codes "path") c.deref-4.result.now (vec_items t.path) c.deref-4.ensures.value none c.in_ok-read_numbers-3.ensures, is ∙ c.refusal-4.ensures)

@@ -1,0 +1,19 @@
+-- Words, each after one space. Assumes nothing: these are definitions.
+use Rattle.std.specs.Prelude.{◌≡◌, ℕ, ◌<◌, List, ◌∷◌, ◌++◌, length, slice_index}
+use Rattle.std.specs.List.{flat_map, AllZip}
+use Rattle.std.specs.Str.Iter.{LacksByte}
+
+-- nothing, or what begins with a space: what stands behind a whole word
+abbrev pub Stops : List ℕ → Type 0
+Stops cs = 0 < length cs → slice_index cs 0 ≡ 32
+
+-- a text begins with a space and a word that spells a value, and this is the rest
+pub record FirstWord {V : Type 0} (spells : List ℕ → V → Type 0) (cs w : List ℕ) (v : V) (rest : List ℕ) : Type 0 where
+  pub text : cs ≡ 32 ∷ (w ++ rest)
+  pub whole : LacksByte 32 w
+  pub stops : Stops rest
+  pub spelled : spells w v
+
+-- a text is words with no space in them, each after one space, and they spell these values
+abbrev pub SpacedWords : {V : Type 0} → (spells : List ℕ → V → Type 0) → List ℕ → List V → Type 0
+SpacedWords spells cs vs = (ws : List (List ℕ)) × (cs ≡ flat_map (λ w. 32 ∷ w) ws) × AllZip (λ w v. LacksByte 32 w × spells w v) ws vs
