@@ -67,10 +67,7 @@ fn run<R: BufRead>(rt: &HostRuntime, input: &mut Input<R>) -> anyhow::Result<()>
         };
         match read_command(heap, &line)? {
             Some(command) => answer(rt, &mut session, input, command)?,
-            None => {
-                let refusal = Refusal::Line(number);
-                println!(rt; "{refusal}")?;
-            }
+            None => println!(rt; "{}", Refusal::Line(number))?,
         }
     }
     Ok(())
