@@ -3,7 +3,7 @@ use Rattle.std.specs.Prelude.{◌≡◌, ℕ, Bool, true, ◌⊎◌, List, Some,
 use Rattle.hash.specs.Hex.{hex}
 use Rattle.hash.specs.Mix.{Mix}
 use Rattle.hash.specs.Value.{bytes_of, value_of}
-use Rattle.keys.specs.Refusals.{first, levels_refusal, bits_refusal, refusal_spelled}
+use Rattle.keys.specs.Refusals.{tree_refusal, refusal_spelled}
 use Rattle.keys.specs.declared.refusal.Refusal.{Refusal}
 use Rattle.tree.specs.Tree.{node}
 use Rattle.signatures.specs.Lines.{signature_text}
