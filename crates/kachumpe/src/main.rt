@@ -1,7 +1,7 @@
 // The program: it reads lines, asks the parts beneath, and prints what they answer.
 #![tactic(auto)]
 
-ghost use Rattle.std.specs.Prelude.{◌≡◌, false, IfOk, OnOk};
+ghost use Rattle.std.specs.Prelude.{◌≡◌, ◌+◌, ◌⊎◌, min, false, [], IfOk, OnOk};
 ghost use Rattle.texts.specs.Commands.{takes_lines};
 ghost use Rattle.texts.specs.Sessions.{Executed};
 
@@ -15,8 +15,10 @@ use std::io;
 use std::io::{BufRead, BufReader};
 use texts::{Command, Session, SignatureLines, read_command};
 
-// The next line; at the end of the input an empty one.
-fn line_or_empty<R: BufRead>(heap: Global, input: &mut Input<R>) -> io::Result<Vec<u8>> {
+// The next line, counted; at the end of the input an empty one.
+fn line_or_empty<R: BufRead>(heap: Global, input: &mut Input<R>) -> io::Result<Vec<u8>>
+    ensures { IfOk result (λ line. (input.new.next ≡ min (input.old.next + 1) 18446744073709551615) ⊎ (line.items ≡ [])) }
+{
     Ok(input.line(heap)?.unwrap_or_else(|| Vec::new(heap)))
 }
 

@@ -1,5 +1,5 @@
 -- What an answer tells that is given only where a test passes.
-use Rattle.std.proofs.Common.{◌≡◌, ℕ, Bool, true, false, cond, Some, None, refl, arith}
+use Rattle.std.proofs.Common.{◌≡◌, ℕ, Bool, true, false, cond, Some, None, refl}
 
 pub some_if : (t : Bool) (v x : ℕ) → Some v ≡ cond t (Some x) None → (t ≡ true) × (v ≡ x)
 some_if true v x e = (refl, cc)

@@ -1,8 +1,8 @@
 -- Lines: the numbers of a line, one after the other, and what its reader says of them.
-use Rattle.std.proofs.Common.{◌≡◌, ℕ, ◌+◌, ◌<◌, List, [], ◌∷◌, ◌++◌, map, length, get_or, take, Some, None, Option, sym, refl, ap, ◌∙◌, subst, MatchOption}
+use Rattle.std.proofs.Common.{◌≡◌, ℕ, List, [], ◌∷◌, ◌++◌, map, Some, None, Option, sym, refl, ap, ◌∙◌, subst, MatchOption}
 use Rattle.std.specs.List.{flat_map, AllZip}
 use Rattle.std.specs.Str.Iter.{LacksByte}
-use Rattle.std.proofs.lemmas.List.{append_assoc, append_cancel_left, flat_map_more, take_more}
+use Rattle.std.proofs.lemmas.List.{append_cancel_left}
 use Rattle.std.proofs.lemmas.Option.{MatchOption-at_none, MatchOption-at_some}
 use Rattle.hash.specs.Value.{value_of, bytes_of}
 use Rattle.hash.specs.declared.number.Number.{Number}
