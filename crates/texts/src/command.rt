@@ -2,6 +2,7 @@
 ghost use Rattle.std.specs.Prelude.{◌≡◌, ℕ, List, ◌++◌, IfOk, codes, MatchOption, slice_index};
 ghost use Rattle.hash.specs.declared.number.Number.{Number};
 ghost use Rattle.texts.specs.Commands.{DecimalBefore, LevelsSpelled, Spelled, takes_lines};
+ghost use Rattle.texts.specs.Reading.{Reads};
 ghost use Rattle.texts.specs.Spelling.{hex};
 ghost use Rattle.texts.specs.declared.command.Command.{Command};
 ghost use Rattle.texts.specs.declared.command.Levels.{Levels as LevelsAsked};
@@ -50,7 +51,7 @@ fn decimal_before<'a>(text: &'a [u8], word: &[u8]) -> Option<(u64, &'a [u8])>
 
 // What follows the word `levels` and a space.
 fn read_levels(text: &[u8]) -> Option<Levels>
-    ensures { MatchOption result ((v : LevelsAsked) → LevelsSpelled text.now v → ⊥) (λ v. LevelsSpelled text.now v) }
+    ensures { Reads (LevelsSpelled text.now) result }
 {
     let (levels, text) = decimal_before(text, b" bits ")?;
     let (bits, text) = decimal_before(text, b" seed ")?;
@@ -71,7 +72,7 @@ fn read_look(heap: Global, text: &[u8]) -> Result<Option<Command>, AllocError>
 
 // The command that a line is, if it is one.
 pub fn read_command(heap: Global, line: &[u8]) -> Result<Option<Command>, AllocError>
-    ensures { IfOk result (λ o. MatchOption o ((c : Command) → Spelled line.now c → ⊥) (λ c. Spelled line.now c)) }
+    ensures { IfOk result (Reads (Spelled line.now)) }
 {
     if let Some(text) = after(line, b"sign ") {
         return Ok(Some(Command::Sign(Vec::from_slice(heap, text)?)));

@@ -1,6 +1,7 @@
 // A number in sixteens: its 32 bytes, each as two of 0-9 a-f.
 ghost use Rattle.std.specs.Prelude.{◌≡◌, ℕ, ◌<◌, ◌++◌, string_bytes, MatchOption, OnOk, ◌≢◌};
 ghost use Rattle.hash.specs.declared.number.Number.{Number};
+ghost use Rattle.texts.specs.Reading.{Reads};
 ghost use Rattle.texts.specs.Spelling.{hex_digit, hex_byte, hex};
 
 use hash::Number;
@@ -49,7 +50,7 @@ pub fn push_hex(out: &mut String, number: &Number) -> Result<(), AllocError>
 
 // The number that a text is in sixteens, if it is one.
 pub fn read_hex(text: &[u8]) -> Option<Number>
-    ensures { MatchOption result ((n : Number) → text.now ≢ hex n.bytes) (λ n. text.now ≡ hex n.bytes) }
+    ensures { Reads (λ n. text.now ≡ hex n.bytes) result }
 {
     if text.len() != 64 {
         return None;
