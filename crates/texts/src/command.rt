@@ -4,8 +4,6 @@ ghost use Rattle.hash.specs.declared.number.Number.{Number};
 ghost use Rattle.texts.specs.Commands.{DecimalBefore, LevelsSpelled, Spelled, takes_lines};
 ghost use Rattle.texts.specs.Reading.{Reads};
 ghost use Rattle.texts.specs.Spelling.{hex};
-ghost use Rattle.texts.specs.declared.command.Command.{Command};
-ghost use Rattle.texts.specs.declared.command.Levels.{Levels as LevelsAsked};
 
 use crate::decimal::read_decimal;
 use crate::hex::read_hex;

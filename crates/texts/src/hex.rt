@@ -1,6 +1,5 @@
 // A number in sixteens: its 32 bytes, each as two of 0-9 a-f.
 ghost use Rattle.std.specs.Prelude.{◌≡◌, ℕ, ◌<◌, ◌++◌, string_bytes, MatchOption, OnOk, ◌≢◌};
-ghost use Rattle.hash.specs.declared.number.Number.{Number};
 ghost use Rattle.texts.specs.Reading.{Reads};
 ghost use Rattle.texts.specs.Spelling.{hex_digit, hex_byte, hex};
 

@@ -1,5 +1,5 @@
 // The four lines of a signature.
-ghost use Rattle.std.specs.Prelude.{◌≡◌, ℕ, ◌+◌, min, [], ◌++◌, Ok, Err, IfOk, IsErrOf, string_bytes, MatchOption, OnOk};
+ghost use Rattle.std.specs.Prelude.{◌≡◌, ◌+◌, min, [], ◌++◌, Ok, Err, IfOk, IsErrOf, string_bytes, OnOk};
 ghost use Rattle.keys.specs.declared.refusal.Refusal.{Refusal};
 ghost use Rattle.keys.specs.declared.refusal.Refusal.TheVariants.{Line};
 ghost use Rattle.signatures.specs.Views.{viewed};
