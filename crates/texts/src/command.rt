@@ -3,8 +3,8 @@ ghost use Rattle.std.specs.Prelude.{◌≡◌, ℕ, List, ◌++◌, IfOk, codes,
 ghost use Rattle.hash.specs.declared.number.Number.{Number};
 ghost use Rattle.tree.specs.declared.own.Tree.{Tree};
 ghost use Rattle.texts.specs.Commands.{DecimalBefore, LevelsSpelled, Spelled, takes_lines};
+ghost use Rattle.texts.specs.Reading.{Reads};
 ghost use Rattle.texts.specs.Spelling.{hex};
-ghost use Rattle.texts.specs.declared.command.Command.{Command};
 
 use crate::decimal::read_decimal;
 use crate::hex::read_hex;
@@ -44,7 +44,7 @@ fn decimal_before<'a>(text: &'a [u8], word: &[u8]) -> Option<(u64, &'a [u8])>
 
 // What follows the word `levels` and a space: the tree that the next lines are asked with. So far a seed is below 2^64.
 fn read_levels(text: &[u8]) -> Option<Tree>
-    ensures { MatchOption result ((v : Tree) → LevelsSpelled text.now v → ⊥) (λ v. LevelsSpelled text.now v) }
+    ensures { Reads (LevelsSpelled text.now) result }
 {
     let (levels, text) = decimal_before(text, b" bits ")?;
     let (bits, text) = decimal_before(text, b" seed ")?;
@@ -69,7 +69,7 @@ fn read_look(heap: Global, text: &[u8]) -> Result<Option<Command>, AllocError>
 
 // The command that a line is, if it is one.
 pub fn read_command(heap: Global, line: &[u8]) -> Result<Option<Command>, AllocError>
-    ensures { IfOk result (λ o. MatchOption o ((c : Command) → Spelled line.now c → ⊥) (λ c. Spelled line.now c)) }
+    ensures { IfOk result (Reads (Spelled line.now)) }
 {
     if let Some(text) = after(line, b"sign ") {
         return Ok(Some(Command::Sign(Vec::from_slice(heap, text)?)));

@@ -20,6 +20,7 @@ pub fn read_decimal(text: &[u8]) -> Option<u64>
         return None;
     }
     let mut value = 0;
+    // No `try_fold`: of one that breaks off its contract tells the calls of the closure, and their proof is longer.
     for digit in text {
         value = with_digit(value, *digit)?;
     }

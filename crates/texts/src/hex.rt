@@ -1,6 +1,6 @@
 // A number in sixteens: its 32 bytes, each as two of 0-9 a-f.
 ghost use Rattle.std.specs.Prelude.{◌≡◌, ℕ, ◌<◌, MatchOption, ◌≢◌};
-ghost use Rattle.hash.specs.declared.number.Number.{Number};
+ghost use Rattle.texts.specs.Reading.{Reads};
 ghost use Rattle.texts.specs.Spelling.{hex_digit, hex};
 
 use hash::Number;
@@ -18,7 +18,7 @@ fn digit_value(digit: u8) -> Option<u8>
 
 // The number that a text is in sixteens, if it is one.
 pub fn read_hex(text: &[u8]) -> Option<Number>
-    ensures { MatchOption result ((n : Number) → text.now ≢ hex n.bytes) (λ n. text.now ≡ hex n.bytes) }
+    ensures { Reads (λ n. text.now ≡ hex n.bytes) result }
 {
     if text.len() != 64 {
         return None;

@@ -1,6 +1,7 @@
 // A line of numbers: a word, and each number in sixteens after one space.
-ghost use Rattle.std.specs.Prelude.{◌≡◌, ℕ, List, ◌++◌, map, IfOk, MatchOption, ◌≢◌};
+ghost use Rattle.std.specs.Prelude.{◌≡◌, ◌++◌, map, IfOk};
 ghost use Rattle.hash.specs.Value.{value_of};
+ghost use Rattle.texts.specs.Reading.{ReadsAs};
 ghost use Rattle.texts.specs.Spelling.{numbers_line};
 
 use crate::spaced::read_words;
@@ -14,7 +15,7 @@ pub fn read_numbers(
     word: &[u8],
     line: &[u8],
 ) -> Result<Option<Vec<Number>>, AllocError>
-    ensures { IfOk result (λ o. MatchOption o ((vs : List ℕ) → line.now ≢ numbers_line word.now vs) (λ v. line.now ≡ numbers_line word.now (map value_of v.items))) }
+    ensures { IfOk result (ReadsAs (λ vs. line.now ≡ numbers_line word.now vs) (λ v. map value_of v.items)) }
 {
     match after(line, word) {
         Some(rest) => read_words(heap, rest),

@@ -1,8 +1,9 @@
 // The four lines of a signature.
-ghost use Rattle.std.specs.Prelude.{◌≡◌, ℕ, ◌+◌, min, [], Ok, Err, IfOk, IsErrOf, MatchOption};
+ghost use Rattle.std.specs.Prelude.{◌≡◌, ◌+◌, min, [], Ok, Err, IfOk, IsErrOf};
 ghost use Rattle.keys.specs.declared.refusal.Refusal.{Refusal};
 ghost use Rattle.keys.specs.declared.refusal.Refusal.TheVariants.{Line};
 ghost use Rattle.signatures.specs.Views.{viewed};
+ghost use Rattle.texts.specs.Reading.{Reads};
 ghost use Rattle.texts.specs.SignatureLines.{signature_of, KeySpelled, SignatureRead};
 ghost use Rattle.texts.specs.declared.signature.ReadError.TheVariants.{Refused, Memory};
 
@@ -38,7 +39,7 @@ impl ReadSignature {
 
 // The key of a signature's first line, if it is one.
 pub fn read_key(line: &[u8]) -> Option<u64>
-    ensures { MatchOption result ((k : ℕ) → KeySpelled line.now k → ⊥) (λ k. KeySpelled line.now k) }
+    ensures { Reads (KeySpelled line.now) result }
 {
     read_decimal(after(line, b"key ")?)
 }

@@ -1,5 +1,6 @@
 // Words, each after one space, read as values of one type.
 ghost use Rattle.std.specs.Prelude.{◌≡◌, ℕ, ◌^◌, List, Some, IfOk, MatchOption};
+ghost use Rattle.texts.specs.Reading.{Reads, ReadsAs};
 ghost use Rattle.texts.specs.Spaced.{FirstWord, SpacedWords};
 ghost use Rattle.texts.specs.Spelling.{hex, decimal_of};
 
@@ -16,7 +17,7 @@ pub trait FromWord: Sized + Drop {
 
     // The value that a word spells, if it spells one.
     fn from_word(word: &[u8]) -> Option<Self>
-        ensures { MatchOption result ((v : Self) → spells word.now v → ⊥) (λ v. spells word.now v) };
+        ensures { Reads (spells word.now) result };
 }
 
 // A decimal below 2^32.
@@ -48,7 +49,7 @@ fn first_value<T: FromWord>(text: &[u8]) -> Option<(T, &[u8])>
 
 // The values of a text that is words, each after one space, if all of them spell one.
 pub fn read_words<T: FromWord>(heap: Global, text: &[u8]) -> Result<Option<Vec<T>>, AllocError>
-    ensures { IfOk result (λ o. MatchOption o ((vs : List T) → SpacedWords T.spells text.now vs → ⊥) (λ v. SpacedWords T.spells text.now v.items)) }
+    ensures { IfOk result (ReadsAs (SpacedWords T.spells text.now) (λ v. v.items)) }
 {
     let mut left = text;
     let mut values = Vec::new(heap);

@@ -1,10 +1,11 @@
 // The words of a line.
-ghost use Rattle.std.specs.Prelude.{◌≡◌, ℕ, List, ◌++◌, MatchOption, ◌≢◌};
+ghost use Rattle.std.specs.Prelude.{◌≡◌, ◌++◌};
+ghost use Rattle.texts.specs.Reading.{ReadsAs};
 ghost use Rattle.texts.specs.Spelling.{WordEnd};
 
 // What follows a word that a line begins with.
 pub fn after<'a>(line: &'a [u8], word: &[u8]) -> Option<&'a [u8]>
-    ensures { MatchOption result ((rest : List ℕ) → line.now ≢ word.now ++ rest) (λ rest. line.now ≡ word.now ++ rest.now) }
+    ensures { ReadsAs (λ rest. line.now ≡ word.now ++ rest) (λ rest. rest.now) result }
 {
     line.strip_prefix(word)
 }
