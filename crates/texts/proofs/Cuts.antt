@@ -7,7 +7,8 @@ use Rattle.std.proofs.lemmas.Bool.{and_parts, leb-true}
 use Rattle.std.proofs.lemmas.Bool.Decides.{nat_tests}
 use Rattle.texts.specs.Commands.{DecimalBefore}
 use Rattle.texts.specs.Spaced.{Stops, FirstWord, SpacedWords}
-use Rattle.texts.specs.Spelling.{WordEnd, hex_digit, hex, is_digit, all_digits, digits_value, decimal_of}
+use Rattle.hash.specs.Hex.{hex_digit, hex}
+use Rattle.texts.specs.Spelling.{WordEnd, is_digit, all_digits, digits_value, decimal_of}
 use Rattle.texts.proofs.Answered.{some_if}
 
 -- no digit is a space

@@ -8,7 +8,8 @@ use Rattle.hash.specs.Value.{value_of, bytes_of}
 use Rattle.hash.specs.declared.number.Number.{Number}
 use Rattle.hash.proofs.Numbers.{bytes_back, with_bytes}
 use Rattle.texts.specs.Spaced.{SpacedWords}
-use Rattle.texts.specs.Spelling.{hex, numbers_line}
+use Rattle.hash.specs.Hex.{hex}
+use Rattle.signatures.specs.Lines.{numbers_line}
 use Rattle.texts.proofs.Cuts.{hex_whole}
 
 -- a number after one space

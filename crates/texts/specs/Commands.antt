@@ -3,7 +3,8 @@ use Rattle.std.specs.Prelude.{◌≡◌, ℕ, ◌^◌, Bool, true, false, List, 
 use Rattle.texts.specs.Spaced.{SpacedWords}
 use Rattle.tree.specs.declared.own.Tree.{Tree}
 use Rattle.hash.specs.Value.{value_of}
-use Rattle.texts.specs.Spelling.{hex, decimal_of}
+use Rattle.hash.specs.Hex.{hex}
+use Rattle.texts.specs.Spelling.{decimal_of}
 use Rattle.texts.specs.declared.command.Command.{Command}
 use Rattle.texts.specs.declared.command.Command.TheVariants.{Store, Levels, Root, Sign, Look}
 

@@ -1,7 +1,5 @@
 -- How numbers are written, by the codes of ASCII. Assumes nothing: these are definitions.
-use Rattle.std.specs.Prelude.{◌≡◌, ℕ, ◌-◌, ◌<◌, ◌≤◌, Bool, true, cond, ◌&&◌, List, [], ◌∷◌, map, length, Some, None, Option, ◌≢◌, nat_le, nat_lt, slice_index}
-pub use Rattle.hash.specs.Hex.{hex_digit, hex_byte, hex}
-pub use Rattle.signatures.specs.Lines.{numbers_line}
+use Rattle.std.specs.Prelude.{◌≡◌, ℕ, ◌-◌, ◌<◌, ◌≤◌, Bool, true, if◌then◌else◌, ◌&&◌, List, [], ◌∷◌, map, length, Some, None, Option, ◌≢◌, nat_le, nat_lt, slice_index}
 use Rattle.std.specs.Int.Digits.{number_from_digits}
 
 -- where the first word of a text ends: at the first space, or with the text
@@ -24,4 +22,4 @@ digits_value cs = number_from_digits 10 (map (λ c. c - 48) cs)
 
 -- the number that a text is in decimal, if it is one or more digits and below the limit
 abbrev pub decimal_of : ℕ → List ℕ → Option ℕ
-decimal_of limit cs = cond (nat_lt 0 (length cs) && (all_digits cs && nat_lt (digits_value cs) limit)) (Some (digits_value cs)) None
+decimal_of limit cs = if nat_lt 0 (length cs) && (all_digits cs && nat_lt (digits_value cs) limit) then Some (digits_value cs) else None

@@ -4,7 +4,7 @@ ghost use Rattle.hash.specs.declared.number.Number.{Number};
 ghost use Rattle.tree.specs.declared.own.Tree.{Tree};
 ghost use Rattle.texts.specs.Commands.{DecimalBefore, LevelsSpelled, Spelled, takes_lines};
 ghost use Rattle.texts.specs.Reading.{Reads};
-ghost use Rattle.texts.specs.Spelling.{hex};
+ghost use Rattle.hash.specs.Hex.{hex};
 
 use crate::decimal::read_decimal;
 use crate::hex::read_hex;

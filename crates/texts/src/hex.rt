@@ -1,7 +1,7 @@
 // A number in sixteens: its 32 bytes, each as two of 0-9 a-f.
 ghost use Rattle.std.specs.Prelude.{◌≡◌, ℕ, ◌<◌, MatchOption, ◌≢◌};
 ghost use Rattle.texts.specs.Reading.{Reads};
-ghost use Rattle.texts.specs.Spelling.{hex_digit, hex};
+ghost use Rattle.hash.specs.Hex.{hex_digit, hex};
 
 use hash::Number;
 

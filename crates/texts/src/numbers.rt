@@ -2,7 +2,7 @@
 ghost use Rattle.std.specs.Prelude.{◌≡◌, ◌++◌, map, IfOk};
 ghost use Rattle.hash.specs.Value.{value_of};
 ghost use Rattle.texts.specs.Reading.{ReadsAs};
-ghost use Rattle.texts.specs.Spelling.{numbers_line};
+ghost use Rattle.signatures.specs.Lines.{numbers_line};
 
 use crate::spaced::read_words;
 use crate::words::after;

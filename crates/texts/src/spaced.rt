@@ -2,7 +2,8 @@
 ghost use Rattle.std.specs.Prelude.{◌≡◌, ℕ, ◌^◌, List, Some, IfOk, MatchOption};
 ghost use Rattle.texts.specs.Reading.{Reads, ReadsAs};
 ghost use Rattle.texts.specs.Spaced.{FirstWord, SpacedWords};
-ghost use Rattle.texts.specs.Spelling.{hex, decimal_of};
+ghost use Rattle.hash.specs.Hex.{hex};
+ghost use Rattle.texts.specs.Spelling.{decimal_of};
 
 use crate::decimal::read_decimal;
 use crate::hex::read_hex;
@@ -11,7 +12,7 @@ use hash::Number;
 use std::alloc::{AllocError, Global};
 
 // A value that is written as one word.
-pub trait FromWord: Sized + Drop {
+pub(crate) trait FromWord: Sized + Drop {
     // The word and the value that it spells.
     ghost spells: { List ℕ → Self → Type 0 };
 
@@ -48,7 +49,10 @@ fn first_value<T: FromWord>(text: &[u8]) -> Option<(T, &[u8])>
 }
 
 // The values of a text that is words, each after one space, if all of them spell one.
-pub fn read_words<T: FromWord>(heap: Global, text: &[u8]) -> Result<Option<Vec<T>>, AllocError>
+pub(crate) fn read_words<T: FromWord>(
+    heap: Global,
+    text: &[u8],
+) -> Result<Option<Vec<T>>, AllocError>
     ensures { IfOk result (ReadsAs (SpacedWords T.spells text.now) (λ v. v.items)) }
 {
     let mut left = text;

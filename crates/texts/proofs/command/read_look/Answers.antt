@@ -1,7 +1,7 @@
 -- The root ends where the first word does.
 use Rattle.std.proofs.Common.{◌++◌, codes, refl, ◌∙◌}
 use Rattle.std.proofs.lemmas.Option.{MatchOption-at_none}
-use Rattle.texts.specs.Spelling.{hex}
+use Rattle.hash.specs.Hex.{hex}
 use Rattle.texts.proofs.Cuts.{cut_word, hex_whole}
 use Rattle.texts.proofs.command.read_look.Goals as goal
 use Rattle.texts.proofs.command.read_look.Goals.{in_default-via-in-Some+in_default, in_default-via-in_default}

@@ -1,6 +1,6 @@
 -- The digits before this byte's are those of the bytes that are read.
 use Rattle.std.proofs.Common.{◌≡◌, ◌*◌, length, take}
-use Rattle.texts.specs.Spelling.{hex}
+use Rattle.hash.specs.Hex.{hex}
 use Rattle.texts.proofs.hex.read_hex.Given as goal
 
 abbrev pub invariant-loop-i : goal.invariant-loop-i
