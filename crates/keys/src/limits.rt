@@ -43,7 +43,7 @@ impl Signer {
     pub fn refuse_bits(bits: u64) -> Result<(), Refusal>
         ensures { Unless (bits_refusal bits) result (λ _. ⊤) }
     {
-        if bits < 1 || bits > Self::MAX_BITS as u64 {
+        if !(1..=Self::MAX_BITS as u64).contains(&bits) {
             return Err(Refusal::Bits(bits));
         }
         Ok(())
