@@ -1,12 +1,13 @@
 // Signatures: what one is, signing with a given key, and verifying one.
 #![tactic(auto)]
 
-mod lines;
+pub mod lines;
 pub mod room;
 pub mod signing;
 pub mod verifying;
 pub mod view;
 
+pub use lines::SpacedNumbers;
 pub use room::SignatureRoom;
 pub use signing::sign_with;
 pub use verifying::verify;

@@ -10,9 +10,9 @@ use std::fmt;
 
 // Numbers, each after one space.
 #[derive(Clone, Copy)]
-struct Spaced<'a>(&'a [Number]);
+pub struct SpacedNumbers<'a>(pub &'a [Number]);
 
-impl fmt::Display for Spaced<'_> {
+impl fmt::Display for SpacedNumbers<'_> {
     ghost output = { λ s. Some (numbers_line [] (map value_of s.0.now)) };
 
     fn fmt<W: fmt::Write>(&self, f: &mut fmt::Formatter<W>) -> fmt::Result {
@@ -29,9 +29,9 @@ impl fmt::Display for SignatureView<'_> {
 
     fn fmt<W: fmt::Write>(&self, f: &mut fmt::Formatter<W>) -> fmt::Result {
         let key = self.key;
-        let parts = Spaced(self.parts);
-        let others = Spaced(self.others);
-        let path = Spaced(self.path);
+        let parts = SpacedNumbers(self.parts);
+        let others = SpacedNumbers(self.others);
+        let path = SpacedNumbers(self.path);
         write!(f, "key {key}\nparts{parts}\nothers{others}\npath{path}")
     }
 }

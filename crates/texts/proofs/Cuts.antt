@@ -1,11 +1,11 @@
 -- Words: where one ends, that a text is cut into them in one way only, and that numbers are written as words.
-use Rattle.std.proofs.Common.{◌≡◌, ℕ, zero, suc, ◌/◌, ◌%◌, ◌^◌, ◌<◌, true, List, [], ◌∷◌, ◌++◌, length, get_or, take, drop, Some, None, sym, refl, ap, ◌∙◌, subst, arith}
-use Rattle.std.specs.List.{flat_map}
+use Rattle.std.proofs.Common.{◌≡◌, ℕ, zero, suc, ◌/◌, ◌%◌, ◌^◌, ◌<◌, true, List, [], ◌∷◌, ◌++◌, length, map, get_or, take, drop, Some, None, sym, refl, ap, ◌∙◌, subst, arith}
+use Rattle.std.specs.List.{AllZip, flat_map}
 use Rattle.std.specs.Str.Iter.{LacksByte}
 use Rattle.std.proofs.lemmas.List.{append_cancel_left, drop_at, get_or_append_left, length-append, take_at}
 use Rattle.std.proofs.lemmas.Bool.{and_parts, leb-true}
 use Rattle.std.proofs.lemmas.Bool.Decides.{nat_tests}
-use Rattle.texts.specs.Commands.{DecimalBefore}
+use Rattle.texts.specs.Commands.{StoreSpelled, DecimalBefore}
 use Rattle.texts.specs.Spaced.{Stops, FirstWord, SpacedWords}
 use Rattle.hash.specs.Hex.{hex_digit, hex}
 use Rattle.texts.specs.Spelling.{WordEnd, is_digit, all_digits, digits_value, decimal_of}
@@ -76,7 +76,7 @@ before_same text word u v p q h b d =
     append_cancel_left word p q same.1
 
 pub not_both : (limit : ℕ) (cs ds : List ℕ) (v : ℕ) → None ≡ decimal_of limit cs → cs ≡ ds → decimal_of limit ds ≡ Some v → ⊥
-not_both limit cs ds v n e f = let z : ◌≡◌ {A = ℕ} 0 1 = cc in omega arith
+not_both limit cs ds v n e f = cc
 
 -- words, each after one space: the first one, and what is left behind it
 words_stop : (ws : List (List ℕ)) → Stops (flat_map (λ w. 32 ∷ w) ws)
@@ -104,3 +104,24 @@ module _ {V : Type 0} (spells : List ℕ → V → Type 0) where
 
   pub one_more : (left w rest : List ℕ) (v : V) (vs : List V) → FirstWord spells left w v rest → SpacedWords spells rest vs → SpacedWords spells left (v ∷ vs)
   one_more left w rest v vs f s = (w ∷ s.0, f.text ∙ ap (λ (r : List ℕ). 32 ∷ (w ++ r)) s.1, ((f.whole, f.spelled), s.2))
+
+-- the counts of a store are such words, since a decimal holds no space
+stored_from : (ws : List (List ℕ)) (vs : List ℕ) → AllZip (λ w v. LacksByte 32 w × (decimal_of (2 ^ 32) w ≡ Some v)) ws vs → map (decimal_of (2 ^ 32)) ws ≡ map (λ v. Some v) vs
+stored_from [] [] m = refl
+stored_from [] (v ∷ vs) m = absurd m
+stored_from (w ∷ ws) [] m = absurd m
+stored_from (w ∷ ws) (v ∷ vs) m = let e = m.0.1 in let r = stored_from ws vs m.1 in cc
+
+pub stored : (cs vs : List ℕ) → SpacedWords (λ w v. decimal_of (2 ^ 32) w ≡ Some v) cs vs → StoreSpelled cs vs
+stored cs vs s = (s.0, s.1, stored_from s.0 vs s.2)
+
+words_from : (ws : List (List ℕ)) (vs : List ℕ) → map (decimal_of (2 ^ 32)) ws ≡ map (λ v. Some v) vs → AllZip (λ w v. LacksByte 32 w × (decimal_of (2 ^ 32) w ≡ Some v)) ws vs
+words_from [] [] m = tt
+words_from [] (v ∷ vs) m = absurd cc
+words_from (w ∷ ws) [] m = absurd cc
+words_from (w ∷ ws) (v ∷ vs) m =
+    let e : decimal_of (2 ^ 32) w ≡ Some v = cc in
+    let rest : map (decimal_of (2 ^ 32)) ws ≡ map (λ v. Some v) vs = cc in ((decimal_whole (2 ^ 32) w v e, e), words_from ws vs rest)
+
+pub stored_words : (cs vs : List ℕ) → StoreSpelled cs vs → SpacedWords (λ w v. decimal_of (2 ^ 32) w ≡ Some v) cs vs
+stored_words cs vs s = (s.0, s.1, words_from s.0 vs s.2)

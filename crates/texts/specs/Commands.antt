@@ -1,7 +1,7 @@
 -- How the lines that ask for something are written. Assumes nothing: these are definitions.
-use Rattle.std.specs.Prelude.{◌≡◌, ℕ, ◌^◌, Bool, true, false, List, ◌++◌, Some, vec_items, codes}
-use Rattle.texts.specs.Spaced.{SpacedWords}
+use Rattle.std.specs.Prelude.{◌≡◌, ℕ, ◌^◌, Bool, true, false, List, ◌∷◌, ◌++◌, map, Some, vec_items, codes}
 use Rattle.tree.specs.declared.own.Tree.{Tree}
+use Rattle.std.specs.List.{flat_map}
 use Rattle.hash.specs.Value.{value_of}
 use Rattle.hash.specs.Hex.{hex}
 use Rattle.texts.specs.Spelling.{decimal_of}
@@ -20,7 +20,7 @@ LevelsSpelled cs t =
 
 -- decimals below 2^32, each after one space
 abbrev pub StoreSpelled : List ℕ → List ℕ → Type 0
-StoreSpelled = SpacedWords (λ w v. decimal_of (2 ^ 32) w ≡ Some v)
+StoreSpelled cs vs = (ws : List (List ℕ)) × (cs ≡ flat_map (λ w. 32 ∷ w) ws) × (map (decimal_of (2 ^ 32)) ws ≡ map (λ v. Some v) vs)
 
 -- the four lines behind a `look` belong to it
 abbrev pub takes_lines : Command → Bool

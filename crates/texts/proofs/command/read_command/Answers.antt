@@ -1,7 +1,8 @@
 -- What begins as a command and cannot be read on is none; nothing follows the word `root`.
-use Rattle.std.proofs.Common.{◌≡◌, ℕ, List, sym, Some, None, Option, MatchOption, IsSomeAnd, subst}
+use Rattle.std.proofs.Common.{◌≡◌, ℕ, List, sym, Some, None, Option, MatchOption, IsSomeAnd, vec_items, subst}
 use Rattle.texts.specs.Commands.{Spelled}
 use Rattle.texts.specs.declared.command.Command.{Command}
+use Rattle.texts.proofs.Cuts.{stored, stored_words}
 use Rattle.texts.proofs.Commanded.{no_levels, no_store}
 use Rattle.texts.proofs.command.read_command.Goals as goal
 
@@ -20,5 +21,8 @@ returns-in-Some-after-2 c =
 
 pub returns-in-Some-after-3 : goal.returns-in-Some-after-3
 returns-in-Some-after-3 c =
-    mapped c.args.line.now c.in_ok-read_words.field-0 c.map-in-Some-after-3.result c.map-in-Some-after-3.ensures.cases c.in_ok-read_words.ensures (no_store c.args.line.now c.in-Some-after-3.text.now c.in-Some-after-3.ensures)
-    (λ v d e s. subst (λ (k : Command). Spelled c.args.line.now k) (sym e) (c.in-Some-after-3.text.now, c.in-Some-after-3.ensures, s))
+    let text = c.in-Some-after-3.text.now in
+    let e = c.in-Some-after-3.ensures in
+    mapped c.args.line.now c.in_ok-read_words.field-0 c.map-in-Some-after-3.result c.map-in-Some-after-3.ensures.cases c.in_ok-read_words.ensures
+    (λ none. no_store c.args.line.now text e (λ vs s. none vs (stored_words text vs s)))
+    (λ v d f s. subst (λ (k : Command). Spelled c.args.line.now k) (sym f) (text, e, stored text (vec_items v) s))

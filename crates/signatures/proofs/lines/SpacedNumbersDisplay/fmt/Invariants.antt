@@ -3,7 +3,7 @@ use Rattle.std.proofs.Common.{[], map, take}
 use Rattle.std.specs.Fmt.{HasWritten, IsPlainFormatter}
 use Rattle.hash.specs.Value.{value_of}
 use Rattle.signatures.specs.Lines.{numbers_line}
-use Rattle.signatures.proofs.lines.SpacedDisplay.fmt.Given as goal
+use Rattle.signatures.proofs.lines.SpacedNumbersDisplay.fmt.Given as goal
 
 abbrev pub invariant-loop-number : goal.invariant-loop-number
 invariant-loop-number g l =
