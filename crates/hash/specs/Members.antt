@@ -1,4 +1,4 @@
--- That something stands in a list, and that numbers rise. Assumes nothing: these are definitions.
+-- That something stands in a list, and that numbers rise. Both go down the list, as the proofs about runs and signatures do; the library's `Contains` and `IsStrictlyIncreasing` go by index. Assumes nothing: these are definitions.
 use Rattle.std.specs.Prelude.{◌≡◌, ℕ, ◌<◌, ◌⊎◌, List, [], ◌∷◌}
 
 abbrev pub In : {A : Type 0} → A → List A → Type 0

@@ -17,6 +17,7 @@ pub enum Purpose {
 }
 
 impl Purpose {
+    // The number of the rule; by a name of its own, which `u64::from` would not say.
     pub fn tag(self) -> u64
         ensures { result ≡ tag self }
     {

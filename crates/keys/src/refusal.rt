@@ -20,6 +20,7 @@ pub enum Refusal {
 }
 
 impl Refusal {
+    // The number in the list of refusals; by a name of its own, which `u64::from` would not say.
     pub fn number(self) -> u64
         ensures { result ≡ refusal_number self }
     {
@@ -32,6 +33,7 @@ impl Refusal {
         }
     }
 
+    // The place that is told with it.
     pub fn place(self) -> u64
         ensures { result ≡ refusal_place self }
     {

@@ -47,6 +47,7 @@ pub fn sign<H: RowHasher>(
     ensures room { RoomSays H.mix (value_of signer.now.seed) signer.now.levels bits.now result room.old room.new }
     ensures accepted { GivenAccepted H.mix (value_of signer.now.seed) signer.now.levels bits.now result room.new }
 {
+    // No `?`, since here a refusal is one of the answers.
     let read = match admit(signer.levels, store, bits.len() as u64) {
         Ok(read) => read,
         Err(refusal) => return Done::Refused(refusal),

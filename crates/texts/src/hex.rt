@@ -25,6 +25,7 @@ pub fn read_hex(text: &[u8]) -> Option<Number>
     }
     let (pairs, _) = text.as_chunks::<2>();
     let mut bytes = [0; 32];
+    // By index, since of what a loop writes through `iter_mut` a proof knows the length alone.
     for (i, [high, low]) in pairs.iter().enumerate() {
         bytes[i] = digit_value(*high)? * 16 + digit_value(*low)?;
     }

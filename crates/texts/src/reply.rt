@@ -29,6 +29,7 @@ pub fn sign_text(heap: Global, done: Done, room: &SignatureRoom) -> Result<Strin
     }
 }
 
+// One of two words, with nothing to put together, so no `Display`.
 pub fn look_text(accepted: bool) -> &'static str
     ensures { result.now ≡ look_spelled accepted }
 {

@@ -68,6 +68,7 @@ impl Session {
         ensures accepted { IfOk result (λ d. GivenAccepted H.mix (value_of self.old.tree.signer.seed) self.old.tree.signer.levels (bits_of_text H.mix text.now self.old.tree.bits) d self.new.room) }
         ensures same { self.new.tree ≡ self.old.tree }
     {
+        // No `?`, since here a refusal is one of the answers.
         if let Err(refusal) = refuse(self.tree.signer.levels, &self.store, self.tree.bits) {
             return Ok(Done::Refused(refusal));
         }

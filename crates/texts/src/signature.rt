@@ -78,7 +78,7 @@ pub struct SignatureLines {
 }
 
 impl SignatureLines {
-    // No line, where the first would have that number.
+    // No line, where the first would have that number. Empty lines and no `Option`: a `look` without its lines is refused by the number of the first.
     pub fn none(heap: Global, first: u64) -> SignatureLines
         ensures first { result.first ≡ first }
         ensures empty { (result.key.items ≡ []) × (result.parts.items ≡ []) × (result.others.items ≡ []) × (result.path.items ≡ []) }

@@ -64,7 +64,7 @@ impl Tree {
         join::<H>(place, &own, &other)
     }
 
-    // Writes the authentication path of a key in front, and nothing behind it.
+    // Writes the authentication path of a key in front, and nothing behind it. Into a lent array, since a device has no heap.
     pub fn authentication_path<H: RowHasher>(
         &self,
         key: u64,

@@ -25,6 +25,7 @@ impl From<u64> for Number {
 impl Number {
     pub const BITS: usize = 256;
 
+    // The bytes, by a name of their own, as the octets of an address are in std.
     pub fn to_bytes(&self) -> [u8; 32]
         ensures bytes { result ≡ self.now.bytes }
         ensures value { result ≡ bytes_of (value_of self.now) }

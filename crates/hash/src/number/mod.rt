@@ -2,6 +2,7 @@
 ghost use Rattle.std.specs.Prelude.{◌≡◌, ℕ, ◌<◌, length, slice_index};
 
 // 32 bytes, the highest first: a natural number below 2^256.
+// No `impl Model`: seen as a natural number it would not be below 2^256, and each function that gives one would have to say so.
 #[derive(Clone, Copy, Debug)]
 pub struct Number {
     bytes: [u8; 32],
