@@ -36,6 +36,7 @@ fn parent<H: RowHasher>(left: &Number, right: &Number) -> Number
 }
 
 // The node above one at a place, from its value and the one beside it: left or right by the place's lowest bit.
+#[tactic(auto, unfolding(crate::specs::Tree::fork))]
 fn join<H: RowHasher>(place: u64, own: &Number, beside: &Number) -> Number
     ensures { value_of result ≡ H.mix (fork place (value_of own.now) (value_of beside.now)) }
 {

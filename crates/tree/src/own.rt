@@ -10,6 +10,7 @@ use hash::{Number, RowHasher};
 use keys::{Refusal, Signer};
 
 // The place of the other node under the same node.
+#[tactic(auto, unfolding(crate::specs::Tree::beside))]
 fn place_beside(place: u64) -> u64
     ensures { result ≡ beside place }
 {

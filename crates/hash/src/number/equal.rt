@@ -33,6 +33,7 @@ impl Eq for Number {
 }
 
 // Every number is below 2^256, and its bytes are those of its meaning.
+#[tactic(auto, using(crate::proofs::Numbers::bounded, crate::proofs::Numbers::bytes_back))]
 pub fn numbers_are_their_bytes()
     ensures bounded { Bounded }
     ensures bytes_back { BytesBack }

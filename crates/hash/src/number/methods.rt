@@ -26,6 +26,7 @@ impl Number {
     pub const BITS: usize = 256;
 
     // The bytes, by a name of their own, as the octets of an address are in std.
+    #[tactic(auto, using(crate::proofs::Numbers::bytes_back))]
     pub fn to_bytes(&self) -> [u8; 32]
         ensures bytes { result ≡ self.now.bytes }
         ensures value { result ≡ bytes_of (value_of self.now) }
