@@ -1,10 +1,9 @@
 -- One bit more, in both rows.
-use Rattle.std.proofs.Common.{◌≡◌, not, length, refl, arith}
+use Rattle.std.proofs.Common.{not, refl, arith}
 use Rattle.hash.specs.Value.{value_of}
 use Rattle.hash.specs.declared.number.Number.{Number}
 use Rattle.hash.proofs.Fronts.{behind_more}
 use Rattle.keys.specs.Keys.{secret, shown}
-use Rattle.std.proofs.lemmas.List.{take_all}
 use Rattle.signatures.specs.Signatures.{each_from}
 use Rattle.signatures.proofs.Each.{each_more}
 use Rattle.signatures.proofs.signing.reveal.Goals as goal
@@ -24,11 +23,3 @@ loop-j-preserved g c =
     let parts = each_more value_of (secret h s i) bs c.loop-j.parts j c.secret.result (omega arith) (omega arith) c.secret.ensures inv.0 in
     let others = each_more value_of (λ k b. shown h (secret h s i k (not b))) bs c.loop-j.others j c.shown.result (omega arith) (omega arith) c.shown.ensures inv.1 in
     (parts, others, behind_more Number c.loop-j.parts c.args.parts.now j c.secret.result inv.2, behind_more Number c.loop-j.others c.args.others.now j c.shown.result inv.3)
-
-pub returns : goal.returns
-returns g c =
-    let bs = c.args.bits.now in
-    let e : c.loop-j.j ≡ length bs = omega arith in
-    let all = take_all (length bs) bs (omega arith) in
-    let inv = c.loop-j.invariant in
-    record { parts = rw (e, all) at inv.0; rest = (rw e at inv.2, rw e at inv.3); others = rw (e, all) at inv.1 }
