@@ -5,28 +5,21 @@ ghost use Rattle.hash.specs.Tag.{tag};
 #[derive(Clone, Copy, Debug, PartialEq, Eq)]
 pub enum Purpose {
     // a secret number
-    Secret,
+    Secret = 0,
     // what is shown of a secret number
-    Shown,
+    Shown = 1,
     // the leaf of a one-time key
-    Leaf,
+    Leaf = 2,
     // an inner node of the tree
-    Node,
+    Node = 3,
     // a text
-    Text,
+    Text = 4,
 }
 
 impl Purpose {
-    // The number of the rule; by a name of its own, which `u64::from` would not say.
     pub fn tag(self) -> u64
         ensures { result ≡ tag self }
     {
-        match self {
-            Purpose::Secret => 0,
-            Purpose::Shown => 1,
-            Purpose::Leaf => 2,
-            Purpose::Node => 3,
-            Purpose::Text => 4,
-        }
+        self as u64
     }
 }

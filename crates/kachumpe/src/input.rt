@@ -1,5 +1,6 @@
 // Standard input by lines, counted from 0.
 ghost use Rattle.std.specs.Prelude.{◌≡◌, ◌+◌, min, is_some, IfOk, if◌then◌else◌};
+ghost use Rattle.texts.specs.SignatureLines.{line_after};
 
 use std::alloc::Global;
 use std::io;
@@ -21,7 +22,7 @@ impl<R: BufRead> Input<R> {
 
     // The next line, without its newline; none at the end. A line that is there is counted.
     pub fn line(&mut self, heap: Global) -> io::Result<Option<Vec<u8>>>
-        ensures { IfOk result (λ o. self.new.next ≡ (if is_some o then min (self.old.next + 1) 18446744073709551615 else self.old.next)) }
+        ensures { IfOk result (λ o. self.new.next ≡ (if is_some o then line_after self.old.next 1 else self.old.next)) }
     {
         let mut line = Vec::new(heap);
         if self.reader.read_until(b'\n', &mut line)? == 0 {

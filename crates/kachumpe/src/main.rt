@@ -3,6 +3,7 @@
 
 ghost use Rattle.std.specs.Prelude.{◌≡◌, ◌+◌, ◌⊎◌, min, false, [], IfOk, OnOk};
 ghost use Rattle.texts.specs.Commands.{takes_lines};
+ghost use Rattle.texts.specs.SignatureLines.{line_after};
 ghost use Rattle.texts.specs.Sessions.{Executed};
 
 mod input;
@@ -17,7 +18,7 @@ use texts::{Command, Session, SignatureLines, read_command};
 
 // The next line, counted; at the end of the input an empty one.
 fn line_or_empty<R: BufRead>(heap: Global, input: &mut Input<R>) -> io::Result<Vec<u8>>
-    ensures { IfOk result (λ line. (input.new.next ≡ min (input.old.next + 1) 18446744073709551615) ⊎ (line.items ≡ [])) }
+    ensures { IfOk result (λ line. (input.new.next ≡ line_after input.old.next 1) ⊎ (line.items ≡ [])) }
 {
     Ok(input.line(heap)?.unwrap_or_else(|| Vec::new(heap)))
 }

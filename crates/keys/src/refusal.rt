@@ -20,7 +20,7 @@ pub enum Refusal {
 }
 
 impl Refusal {
-    // The number in the list of refusals; by a name of its own, which `u64::from` would not say.
+    // The number in the list of refusals. By a `match`, since a variant that holds a value has no number of its own.
     pub fn number(self) -> u64
         ensures { result ≡ refusal_number self }
     {

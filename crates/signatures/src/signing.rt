@@ -9,7 +9,7 @@ use crate::room::SignatureRoom;
 use hash::{Number, RowHasher};
 use keys::{OneTimeKey, Refusal, Signer};
 
-// Writes for each bit its secret number, and what is shown of the other one, and nothing behind them.
+// Writes for each bit its secret number, and what is shown of the other one, and nothing behind them. Into lent arrays, since a device has no heap.
 fn reveal<H: RowHasher>(
     key: &OneTimeKey,
     bits: &[bool],
@@ -22,7 +22,7 @@ fn reveal<H: RowHasher>(
     ensures rest { (drop (length bits.now) parts.new ≡ drop (length bits.now) parts.old) × (drop (length bits.now) others.new ≡ drop (length bits.now) others.old) }
     ensures others { map value_of (take (length bits.now) others.new) ≡ others_from H.mix (value_of key.now.seed) key.now.index 0 bits.now }
 {
-    // By index, since of what a loop writes through `iter_mut` a proof knows the length alone.
+    // By index, since behind `zip` a proof knows of what is written through `iter_mut` the length alone.
     for (j, bit) in bits.iter().enumerate() {
         parts[j] = key.secret::<H>(j as u64, *bit);
         others[j] = key.shown::<H>(j as u64, !*bit);

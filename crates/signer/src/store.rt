@@ -16,7 +16,7 @@ fn check_of(count: u32) -> u32
     ((7 * u64::from(count) + 3) % MODULUS) as u32
 }
 
-// Whether a slot's check fits.
+// Whether a slot's check fits. Slots are told by number and lie flat, as the lent store has them.
 fn slot_is_right(cells: &[u32; 4], slot: usize) -> bool
     requires { slot < 2 }
     ensures { result ≡ slot_ok cells.now slot }

@@ -2,8 +2,8 @@
 use Rattle.std.proofs.Common.{◌≡◌, ℕ, zero, suc, ◌+◌, ◌-◌, ◌*◌, ◌<◌, ◌≤◌, true, false, ◌&&◌, ltb, List, [], ◌∷◌, map, length, get_or, take, drop, Some, None, sym, refl, ap, ◌∙◌, inl, inr, arith}
 use Rattle.std.specs.Int.Digits.{number_from_digits}
 use Rattle.std.proofs.lemmas.Int.Digits.{number_push, number_after_append, number_after_ge}
-use Rattle.std.proofs.lemmas.List.{map_more, map-append, take_all, take-append-drop}
-use Rattle.std.proofs.lemmas.Bool.{and_cases, and_from, and_parts, and_left, and_right, cond-true, cond-false, le-ltb, lt-ltb, ltb-false}
+use Rattle.std.proofs.lemmas.List.{map_more, map-append, take-append-drop}
+use Rattle.std.proofs.lemmas.Bool.{and_cases, and_from, and_parts, and_left, and_right, cond-false, le-ltb, ltb-false}
 use Rattle.texts.specs.Spelling.{is_digit, all_digits, digits_value, decimal_of}
 
 abbrev worth_of : ℕ → ℕ
@@ -44,13 +44,3 @@ bad limit cs i v h e t =
           and_right (all_digits cs) _ (le-ltb (digits_value cs) limit (omega (arith, large, e, value_more cs i h, value_grows cs (i + 1))))
     ] in
     sym (cond-false _ (Some (digits_value cs)) None (and_right (ltb 0 (length cs)) _ refused))
-
--- and where all digits passed, the number is read
-pub good : (limit : ℕ) (cs : List ℕ) (i v : ℕ) → 0 < length cs → length cs ≤ i → v < limit → v ≡ digits_value (take i cs) → all_digits (take i cs) ≡ true →
-    Some v ≡ decimal_of limit cs
-good limit cs i v some h small e d =
-    let all = take_all i cs h in
-    let w : v ≡ digits_value cs = e ∙ ap digits_value all in
-    let digits : all_digits cs ≡ true = ap all_digits (sym all) ∙ d in
-    let below : ltb (digits_value cs) limit ≡ true = lt-ltb _ _ (omega (arith, small, w)) in
-    ap (λ (x : ℕ). Some x) w ∙ sym (cond-true _ (Some (digits_value cs)) None (and_from (ltb 0 (length cs)) _ (lt-ltb 0 (length cs) some) (and_from (all_digits cs) _ digits below)))

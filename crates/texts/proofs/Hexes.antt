@@ -2,7 +2,6 @@
 use Rattle.std.proofs.Common.{◌≡◌, ℕ, zero, suc, ◌+◌, ◌*◌, ◌/◌, ◌%◌, ◌<◌, List, [], ◌∷◌, ◌++◌, length, get_or, take, drop, set, sym, refl, ap, ◌∙◌, arith}
 use Rattle.std.specs.Simd.{first_chunks}
 use Rattle.std.proofs.lemmas.List.{append_assoc, get_or-drop, get_or-take, take_more, take_more_set}
-use Rattle.std.proofs.lemmas.Bool.Decides.{nat_tests}
 use Rattle.hash.specs.Hex.{hex_digit, hex_byte, hex}
 
 pub length-hex : (bs : List ℕ) → length (hex bs) ≡ 2 * length bs
@@ -20,21 +19,9 @@ hex_low (b ∷ bs) zero h = refl
 hex_low (b ∷ bs) (suc i) h =
     let e : 2 * suc i + 1 ≡ suc (suc (2 * i + 1)) = omega arith in ap (λ (k : ℕ). get_or (hex (b ∷ bs)) k 0) e ∙ hex_low bs i (omega arith)
 
-pub digit_small : (d : ℕ) → d < 16 → hex_digit d < 128
-digit_small d h = grind (arith, nat_tests)
-
--- two characters more, each of one byte
-pub two_more : (s t u e f : List ℕ) (p q : ℕ) → t ≡ s ++ e → u ≡ t ++ f → e ≡ p ∷ [] → f ≡ q ∷ [] → u ≡ s ++ (p ∷ q ∷ [])
-two_more s t u e f p q a b c d = b ∙ (rw (a, c, d) (append_assoc s (p ∷ []) (q ∷ [])))
-
 hex_push : (bs : List ℕ) (b : ℕ) → hex (bs ++ (b ∷ [])) ≡ hex bs ++ hex_byte b
 hex_push [] b = refl
 hex_push (x ∷ bs) b = ap (λ (r : List ℕ). hex_byte x ++ r) (hex_push bs b) ∙ sym (append_assoc (hex_byte x) (hex bs) (hex_byte b))
-
--- one turn of a loop that writes, and of one that reads
-pub written_more : (out : List ℕ) (bs : List ℕ) (i : ℕ) → i < length bs → (out ++ hex (take i bs)) ++ hex_byte (get_or bs i 0) ≡ out ++ hex (take (i + 1) bs)
-written_more out bs i h =
-    append_assoc out (hex (take i bs)) (hex_byte (get_or bs i 0)) ∙ ap (λ (r : List ℕ). out ++ r) (sym (ap hex (take_more bs i 0 h) ∙ hex_push (take i bs) (get_or bs i 0)))
 
 pub read_more : (cs bs : List ℕ) (i p q : ℕ) → i < length bs → 2 * i + 1 < length cs → q < 16 → get_or cs (2 * i) 0 ≡ hex_digit p → get_or cs (2 * i + 1) 0 ≡ hex_digit q →
     take (2 * i) cs ≡ hex (take i bs) → take (2 * (i + 1)) cs ≡ hex (take (i + 1) (set bs i (p * 16 + q)))

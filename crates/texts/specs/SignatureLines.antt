@@ -9,6 +9,10 @@ use Rattle.texts.specs.Spelling.{decimal_of}
 use Rattle.texts.specs.declared.signature.ReadSignature.{ReadSignature}
 use Rattle.texts.specs.declared.signature.SignatureLines.{SignatureLines}
 
+-- the number of the line that comes so many after another; numbers of lines end at 2^64 - 1
+abbrev pub line_after : ℕ → ℕ → ℕ
+line_after n k = min (n + k) 18446744073709551615
+
 -- the signature that was read
 abbrev pub signature_of : ReadSignature → Signature
 signature_of s =
@@ -42,4 +46,4 @@ Readable t (suc (suc (suc k))) = (vs : List ℕ) × (vec_items t.path ≡ number
 abbrev pub SignatureRead : SignatureLines → Result ReadSignature Refusal → Type 0
 SignatureRead t (Ok s) = LinesOf (signature_of s) t
 SignatureRead t (Err r) =
-    (k : ℕ) × (k < 4) × ((j : ℕ) → j < k → Readable t j) × (Readable t k → ⊥) × (r ≡ Line (min (t.first + k) 18446744073709551615))
+    (k : ℕ) × (k < 4) × ((j : ℕ) → j < k → Readable t j) × (Readable t k → ⊥) × (r ≡ Line (line_after t.first k))

@@ -6,7 +6,7 @@ ghost use Rattle.texts.specs.Bits.{text_row, bits_of_text};
 use hash::{Number, Purpose, RowHasher};
 use std::alloc::{AllocError, Global};
 
-// The hash of a text: of its bytes, one number for each.
+// The hash of a text: of its bytes, one number for each. Number by number and not by `H::hash`, since a text can be long.
 pub fn digest<H: RowHasher>(text: &[u8]) -> Number
     ensures { value_of result ≡ H.mix (text_row text.now) }
 {

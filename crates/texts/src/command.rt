@@ -25,7 +25,7 @@ pub enum Command {
 }
 
 impl Command {
-    // Whether the four lines behind it belong to it.
+    // Whether the four lines behind it belong to it. A test beside the lines and no `Option` of them, since a `look` whose lines are missing is refused by the number of the first.
     pub fn takes_lines(&self) -> bool
         ensures { result ≡ takes_lines self.now }
     {

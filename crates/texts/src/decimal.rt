@@ -12,7 +12,7 @@ fn with_digit(value: u64, digit: u8) -> Option<u64>
     value.checked_mul(10)?.checked_add(u64::from(digit - b'0'))
 }
 
-// The number that a text is in decimal, if it is one below 2^64.
+// The number that a text is in decimal, if it is one below 2^64. No `parse`, which takes a `+` too.
 pub fn read_decimal(text: &[u8]) -> Option<u64>
     ensures { result ≡ decimal_of (2 ^ 64) text.now }
 {
@@ -20,7 +20,7 @@ pub fn read_decimal(text: &[u8]) -> Option<u64>
         return None;
     }
     let mut value = 0;
-    // No `try_fold`: of one that breaks off its contract tells the calls of the closure, and their proof is longer.
+    // No `try_fold`, whose contract tells of the closure's calls one by one: that proof is longer than this loop's.
     for digit in text {
         value = with_digit(value, *digit)?;
     }

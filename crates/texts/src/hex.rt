@@ -5,7 +5,7 @@ ghost use Rattle.hash.specs.Hex.{hex_digit, hex};
 
 use hash::Number;
 
-// The digit of a character, where it is one.
+// The digit of a character, where it is one. No `to_digit`, which takes upper case too.
 fn digit_value(digit: u8) -> Option<u8>
     ensures { MatchOption result ((d : ℕ) → d < 16 → digit ≢ hex_digit d) (λ d. (d < 16) × (digit ≡ hex_digit d)) }
 {
@@ -25,7 +25,7 @@ pub fn read_hex(text: &[u8]) -> Option<Number>
     }
     let (pairs, _) = text.as_chunks::<2>();
     let mut bytes = [0; 32];
-    // By index, since of what a loop writes through `iter_mut` a proof knows the length alone.
+    // By index, since behind `zip` a proof knows of what is written through `iter_mut` the length alone.
     for (i, [high, low]) in pairs.iter().enumerate() {
         bytes[i] = digit_value(*high)? * 16 + digit_value(*low)?;
     }

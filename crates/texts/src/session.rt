@@ -9,8 +9,7 @@ ghost use Rattle.signatures.specs.Signatures.{blank, accepted};
 ghost use Rattle.signatures.specs.Views.{viewed, held};
 ghost use Rattle.signer.specs.Answers.{answer, stored, RoomSays, GivenAccepted};
 ghost use Rattle.signer.specs.Promises.{Own};
-ghost use Rattle.texts.specs.Bits.{bits_of_text};
-ghost use Rattle.texts.specs.Sessions.{look_answer, Executed, Failed, Answered, Promised};
+ghost use Rattle.texts.specs.Sessions.{bits_asked, look_answer, Executed, Failed, Answered, Promised};
 ghost use Rattle.texts.specs.SignatureLines.{SignatureRead};
 ghost use Rattle.texts.specs.declared.signature.ReadSignature.{ReadSignature};
 
@@ -64,8 +63,8 @@ impl Session {
     pub fn sign<H: RowHasher>(&mut self, heap: Global, text: &[u8]) -> Result<Done, AllocError>
         ensures answer { IfOk result (λ d. d ≡ answer self.old.tree.signer.levels self.old.store.items self.old.tree.bits 2) }
         ensures store { MatchResult result (λ _. self.new.store.items ≡ stored self.old.tree.signer.levels self.old.store.items self.old.tree.bits 2) (λ _. self.new.store.items ≡ self.old.store.items) }
-        ensures room { MatchResult result (λ d. RoomSays H.mix (value_of self.old.tree.signer.seed) self.old.tree.signer.levels (bits_of_text H.mix text.now self.old.tree.bits) d self.old.room self.new.room) (λ _. self.new.room ≡ self.old.room) }
-        ensures accepted { IfOk result (λ d. GivenAccepted H.mix (value_of self.old.tree.signer.seed) self.old.tree.signer.levels (bits_of_text H.mix text.now self.old.tree.bits) d self.new.room) }
+        ensures room { MatchResult result (λ d. RoomSays H.mix (value_of self.old.tree.signer.seed) self.old.tree.signer.levels (bits_asked H.mix self.old text.now) d self.old.room self.new.room) (λ _. self.new.room ≡ self.old.room) }
+        ensures accepted { IfOk result (λ d. GivenAccepted H.mix (value_of self.old.tree.signer.seed) self.old.tree.signer.levels (bits_asked H.mix self.old text.now) d self.new.room) }
         ensures same { self.new.tree ≡ self.old.tree }
     {
         // No `?`, since here a refusal is one of the answers.
@@ -84,8 +83,8 @@ impl Session {
         text: &[u8],
         signature: SignatureView<'_>,
     ) -> Result<bool, AllocError>
-        ensures answer { IfOk result (λ b. b ≡ accepted H.mix (value_of root.now) self.now.tree.signer.levels (bits_of_text H.mix text.now self.now.tree.bits) (viewed signature.entry)) }
-        ensures own { IfOk result (λ b. (s l n : ℕ) → b ≡ true → value_of root.now ≡ node H.mix n s l 0 → Own H.mix s l n self.now.tree.signer.levels (bits_of_text H.mix text.now self.now.tree.bits) (viewed signature.entry) ⊎ LocatedCollision H.mix n s l (bits_of_text H.mix text.now self.now.tree.bits) (viewed signature.entry)) }
+        ensures answer { IfOk result (λ b. b ≡ accepted H.mix (value_of root.now) self.now.tree.signer.levels (bits_asked H.mix self.now text.now) (viewed signature.entry)) }
+        ensures own { IfOk result (λ b. (s l n : ℕ) → b ≡ true → value_of root.now ≡ node H.mix n s l 0 → Own H.mix s l n self.now.tree.signer.levels (bits_asked H.mix self.now text.now) (viewed signature.entry) ⊎ LocatedCollision H.mix n s l (bits_asked H.mix self.now text.now) (viewed signature.entry)) }
     {
         let bits = text_bits::<H>(heap, text, self.tree.bits)?;
         Ok(look::<H>(root, self.tree.signer.levels, &bits, signature))

@@ -4,7 +4,7 @@ ghost use Rattle.keys.specs.declared.refusal.Refusal.{Refusal};
 ghost use Rattle.keys.specs.declared.refusal.Refusal.TheVariants.{Line};
 ghost use Rattle.signatures.specs.Views.{viewed};
 ghost use Rattle.texts.specs.Reading.{Reads};
-ghost use Rattle.texts.specs.SignatureLines.{signature_of, KeySpelled, SignatureRead};
+ghost use Rattle.texts.specs.SignatureLines.{line_after, signature_of, KeySpelled, SignatureRead};
 ghost use Rattle.texts.specs.declared.signature.ReadError.TheVariants.{Refused, Memory};
 
 use crate::decimal::read_decimal;
@@ -78,7 +78,7 @@ pub struct SignatureLines {
 }
 
 impl SignatureLines {
-    // No line, where the first would have that number. Empty lines and no `Option`: a `look` without its lines is refused by the number of the first.
+    // No line, where the first would have that number.
     pub fn none(heap: Global, first: u64) -> SignatureLines
         ensures first { result.first ≡ first }
         ensures empty { (result.key.items ≡ []) × (result.parts.items ≡ []) × (result.others.items ≡ []) × (result.path.items ≡ []) }
@@ -94,7 +94,7 @@ impl SignatureLines {
 
     // The refusal of the line that comes so many after the first.
     fn refusal(&self, after: u64) -> Refusal
-        ensures { result ≡ Line (min (self.now.first + after) 18446744073709551615) }
+        ensures { result ≡ Line (line_after self.now.first after) }
     {
         Refusal::Line(self.first.saturating_add(after))
     }

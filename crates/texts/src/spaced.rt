@@ -57,6 +57,7 @@ pub(crate) fn read_words<T: FromWord>(
 {
     let mut left = text;
     let mut values = Vec::new(heap);
+    // No `split`, which would give what stands before the first space as a piece, too.
     while !left.is_empty() {
         let Some((value, rest)) = first_value::<T>(left) else {
             return Ok(None);

@@ -8,9 +8,6 @@ pub power_is : (n : ℕ) → power n ≡ 2 ^ n
 power_is zero = refl
 power_is (suc n) = omega (arith, power_is n)
 
-pub power_mono : (m n : ℕ) → m ≤ n → power m ≤ power n
-power_mono m n h = let p : 2 ^ m ≤ 2 ^ n = pow_mono h in omega (arith, power_is m, power_is n)
-
 -- what a shift of 1 gives in 64 bits
 pub shifted : (n : ℕ) → n < 64 → 1 * 2 ^ n % 2 ^ 64 ≡ power n
 shifted n h =

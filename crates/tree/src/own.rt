@@ -45,7 +45,7 @@ impl Tree {
         self.make_path::<H>(level, place << level, scratch)
     }
 
-    // The authentication path from a key up to a level, and the node that it leads to. The node beside is made first, since it needs the room in which the path below it is written afterwards.
+    // The authentication path from a key up to a level, and the node that it leads to. The node beside is made first, since it needs the room in which the path below it is written afterwards: a lent array, since a device has no heap.
     #[cycle(make_node_make_path)]
     fn make_path<H: RowHasher>(&self, level: u64, key: u64, path: &mut [Number]) -> Number
         requires few { level ≤ max_levels }

@@ -25,7 +25,7 @@ impl From<u64> for Number {
 impl Number {
     pub const BITS: usize = 256;
 
-    // The bytes, by a name of their own, as the octets of an address are in std.
+    // A method and no `From`, since this name says what is given.
     #[tactic(auto, using(crate::proofs::Numbers::bytes_back))]
     pub fn to_bytes(&self) -> [u8; 32]
         ensures bytes { result ≡ self.now.bytes }

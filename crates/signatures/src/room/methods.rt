@@ -28,6 +28,7 @@ impl SignatureRoom {
         }
     }
 
+    // The view of `ReadSignature` shows whole rows; here each is cut to what is in use.
     pub fn view<'a>(&'a self) -> SignatureView<'a>
         ensures { viewed result ≡ held self.now }
     {

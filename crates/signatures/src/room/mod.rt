@@ -5,7 +5,7 @@ use hash::Number;
 use keys::Signer;
 
 // The largest signature that a signer can make has place in it. Of the three rows the first `bits`, `bits` and `levels` numbers are in use.
-// Arrays with lengths beside them, since a device has no heap; and no `ArrayVec`, since the contracts say that what is not in use stays as it was. Rows and no pairs, since each row is lent and printed as a whole.
+// Arrays with lengths beside them, since a device has no heap; and no `ArrayVec`, which hides what is not in use, since the contracts say that it stays as it was. Rows and no pairs, since each row is lent and printed as a whole.
 #[derive(Drop)]
 pub struct SignatureRoom {
     pub(crate) key: u64,

@@ -1,9 +1,9 @@
 -- Each digit passes, or refuses the whole.
-use Rattle.std.proofs.Common.{◌+◌, ◌-◌, ◌*◌, ◌^◌, ◌<◌, ◌&&◌, ltb, length, get_or, sym, ◌∙◌, add-one, arith}
-use Rattle.std.proofs.lemmas.Bool.{and_parts, eqb-false, ltb-true}
+use Rattle.std.proofs.Common.{◌+◌, ◌-◌, ◌*◌, ◌^◌, ◌&&◌, ltb, get_or, add-one, arith}
+use Rattle.std.proofs.lemmas.Bool.{and_parts, ltb-true}
 use Rattle.texts.specs.Spelling.{is_digit}
 use Rattle.texts.proofs.Answered.{some_if, none_if}
-use Rattle.texts.proofs.Decimals.{value_more, digits_more, bad, good}
+use Rattle.texts.proofs.Decimals.{value_more, digits_more, bad}
 use Rattle.texts.proofs.decimal.read_decimal.Goals as goal
 
 pub returns-in_err-value : goal.returns-in_err-value
@@ -18,9 +18,3 @@ loop-digit-preserved c =
     let tests = and_parts (is_digit (get_or text i 0)) _ passed.0 in
     let below = ltb-true _ _ tests.1 in
     (omega (arith, passed.1, value_more text i (omega arith), c.loop-digit.invariant.0), rw (add-one i) (digits_more text i (omega arith) c.loop-digit.invariant.1 tests.0), omega (arith, passed.1, below))
-
-pub returns : goal.returns
-returns c =
-    let none = eqb-false _ _ (sym c.is_empty.ensures ∙ c.if-is_empty.false) in
-    let some : 0 < length c.args.text.now = omega arith in
-    good (2 ^ 64) c.args.text.now c.loop-digit.digit-index c.loop-digit.value some (omega arith) c.loop-digit.invariant.2 c.loop-digit.invariant.0 c.loop-digit.invariant.1
