@@ -29,9 +29,7 @@ impl<R: BufRead> Input<R> {
             return Ok(None);
         }
         self.next = self.next.saturating_add(1);
-        if line.last().copied() == Some(b'\n') {
-            let _ = line.pop();
-        }
+        let _ = line.pop_if(|byte| *byte == b'\n');
         Ok(Some(line))
     }
 }

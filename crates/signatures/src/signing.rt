@@ -9,7 +9,7 @@ use crate::room::SignatureRoom;
 use hash::{Number, RowHasher};
 use keys::{OneTimeKey, Refusal, Signer};
 
-// Writes for each bit its secret number, and what is shown of the other one, and nothing behind them. Into lent arrays, since a device has no heap.
+// Writes for each bit its secret number, and what is shown of the other one, and nothing behind them (said by `drop`, which is as short as a name). Into lent arrays, since a device has no heap.
 fn reveal<H: RowHasher>(
     key: &OneTimeKey,
     bits: &[bool],

@@ -22,7 +22,7 @@ fn absorb_pair<H: RowHasher>(hasher: &mut H, set: bool, own: &Number, other: &Nu
     }
 }
 
-// The leaf that a signature's numbers lead to.
+// The leaf that a signature's numbers lead to, hashed as they come, so that no row is held.
 fn leaf_of<H: RowHasher>(bits: &[bool], parts: &[Number], others: &[Number]) -> Number
     requires parts { length parts.now ≡ length bits.now }
     requires others { length others.now ≡ length bits.now }

@@ -58,6 +58,7 @@ pub fn sign<H: RowHasher>(
     let counted = read.reserve(store);
     // Read back from the store, the key is the one below the count: made before the count is written, the signature would be by another key.
     let key = u64::from(counted.next_key()) - 1;
+    // No `?` here either; and what would be refused here `admit` has refused.
     match sign_with::<H>(signer, key, bits, room) {
         Ok(()) => Done::Key(key),
         Err(refusal) => Done::Refused(refusal),

@@ -7,6 +7,7 @@ ghost use Rattle.signer.specs.Store.{check, slot_ok, written, next, sound, reser
 use keys::Refusal;
 use tree::key_count;
 
+// The rule's own, though it is that of the stand-in hash, too.
 const MODULUS: u64 = 4_294_967_291;
 
 // The check of a count.
@@ -95,6 +96,7 @@ impl Store {
         let at = 2 * self.slot_to_write();
         lent[at] = count;
         lent[at + 1] = check_of(count);
+        // By hand, since `try_from` has an error that cannot happen here.
         Store {
             cells: [lent[0], lent[1], lent[2], lent[3]],
         }

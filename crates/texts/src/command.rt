@@ -33,7 +33,7 @@ impl Command {
     }
 }
 
-// A decimal before a word that begins with a space, and what follows that word.
+// A decimal before a word that begins with a space, and what follows that word. No `Reads`, since it is two values.
 fn decimal_before<'a>(text: &'a [u8], word: &[u8]) -> Option<(u64, &'a [u8])>
     requires { slice_index word.now 0 ≡ 32 }
     ensures { MatchOption result ((v : ℕ) (rest : List ℕ) → DecimalBefore text.now word.now v rest → ⊥) (λ p. DecimalBefore text.now word.now p.0 p.1.now) }
@@ -56,7 +56,7 @@ fn read_levels(text: &[u8]) -> Option<Tree>
     Some(Tree { signer, bits })
 }
 
-// What follows the word `look` and a space: a root in sixteens, a space and a text.
+// What follows the word `look` and a space: a root in sixteens, a space and a text. No `Reads`, since what it is and what it is not are said of different values.
 fn read_look(heap: Global, text: &[u8]) -> Result<Option<Command>, AllocError>
     ensures { IfOk result (λ o. MatchOption o ((n : Number) (t : List ℕ) → text.now ≡ hex n.bytes ++ (codes " " ++ t) → ⊥) (λ c. ((cs : List ℕ) → cs ≡ codes "look " ++ text.now → Spelled cs c))) }
 {

@@ -5,7 +5,7 @@ ghost use Rattle.hash.specs.Hex.{hex_digit, hex};
 
 use hash::Number;
 
-// The digit of a character, where it is one. No `to_digit`, which takes upper case too.
+// The digit of a character, where it is one. No `to_digit`, which takes upper case too; no `Reads`, since it speaks of digits below 16 alone.
 fn digit_value(digit: u8) -> Option<u8>
     ensures { MatchOption result ((d : ℕ) → d < 16 → digit ≢ hex_digit d) (λ d. (d < 16) × (digit ≡ hex_digit d)) }
 {

@@ -39,7 +39,7 @@ impl FromWord for Number {
     }
 }
 
-// The value of the word that a text begins with, after one space, and what follows the word.
+// The value of the word that a text begins with, after one space, and what follows the word. No `Reads`, since it is two values.
 fn first_value<T: FromWord>(text: &[u8]) -> Option<(T, &[u8])>
     ensures { MatchOption result ((w : List ℕ) (v : T) (rest : List ℕ) → FirstWord T.spells text.now w v rest → ⊥) (λ p. (w : List ℕ) × FirstWord T.spells text.now w p.0 p.1.now) }
 {

@@ -1,4 +1,4 @@
-// The signer's own tree: its root, its nodes and its authentication paths. Nothing holds the tree: a node is made on the walk up from its first leaf, and on that walk each leaf below it is worked out once.
+// The signer's own tree: its root, its nodes and its authentication paths. Nothing holds the tree: a node is made on the walk up from its first leaf, and on that walk each leaf below it is worked out once. That what stands behind the numbers that are written is as it was is said by `drop`, which is as short as a name.
 ghost use Rattle.std.specs.Prelude.{◌≡◌, ◌*◌, ◌/◌, ◌^◌, ◌<◌, ◌≤◌, map, length, take, drop, OnErr};
 ghost use Rattle.hash.specs.Value.{value_of};
 ghost use Rattle.keys.specs.Limits.{max_levels};
