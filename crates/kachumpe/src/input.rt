@@ -1,5 +1,5 @@
 // Standard input by lines, counted from 0.
-ghost use Rattle.std.specs.Prelude.{◌≡◌, ◌+◌, min, is_some, IfOk, if◌then◌else◌};
+ghost use Rattle.std.specs.Prelude.{◌≡◌, is_some, IfOk, if◌then◌else◌};
 ghost use Rattle.texts.specs.SignatureLines.{line_after};
 
 use std::alloc::Global;

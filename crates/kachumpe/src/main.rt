@@ -1,7 +1,7 @@
 // The program: it reads lines, asks the parts beneath, and prints what they answer.
 #![tactic(auto)]
 
-ghost use Rattle.std.specs.Prelude.{◌≡◌, ◌+◌, ◌⊎◌, min, false, [], IfOk, OnOk};
+ghost use Rattle.std.specs.Prelude.{◌≡◌, ◌⊎◌, false, [], IfOk, OnOk};
 ghost use Rattle.texts.specs.Commands.{takes_lines};
 ghost use Rattle.texts.specs.SignatureLines.{line_after};
 ghost use Rattle.texts.specs.Sessions.{Executed};
@@ -16,9 +16,9 @@ use std::io;
 use std::io::{BufRead, BufReader};
 use texts::{Command, Session, SignatureLines, read_command};
 
-// The next line, counted; at the end of the input an empty one.
+// The next line, counted; at the end of the input an empty one, and nothing is counted.
 fn line_or_empty<R: BufRead>(heap: Global, input: &mut Input<R>) -> io::Result<Vec<u8>>
-    ensures { IfOk result (λ line. (input.new.next ≡ line_after input.old.next 1) ⊎ (line.items ≡ [])) }
+    ensures { IfOk result (λ line. (input.new.next ≡ line_after input.old.next 1) ⊎ ((line.items ≡ []) × (input.new.next ≡ input.old.next))) }
 {
     Ok(input.line(heap)?.unwrap_or_else(|| Vec::new(heap)))
 }

@@ -1,5 +1,5 @@
 -- The store: two slots of two numbers, a count and a check of it. Each number is written at once, and power may fail before a write. Assumes nothing: these are definitions.
-use Rattle.std.specs.Prelude.{ℕ, zero, suc, ◌+◌, ◌-◌, ◌*◌, ◌%◌, Bool, if◌then◌else◌, not, ◌&&◌, ◌||◌, List, length, ◌==◌, nat_le, nat_lt, slice_index, slice_set}
+use Rattle.std.specs.Prelude.{ℕ, zero, suc, ◌+◌, ◌-◌, ◌*◌, ◌%◌, Bool, if◌then◌else◌, ◌&&◌, ◌||◌, List, length, ◌==◌, nat_le, nat_lt, slice_index, slice_set}
 use Rattle.tree.specs.Tree.{power}
 
 -- the check of a count
@@ -16,7 +16,7 @@ count_in m k = if slot_ok m k then slice_index m (2 * k) else 0
 
 -- the slot that is written next: the first that is not right, or else the one with the smaller count, the first if they are equal
 abbrev pub written : List ℕ → ℕ
-written m = if not (slot_ok m 0) then 0 else if not (slot_ok m 1) then 1 else if nat_le (count_in m 0) (count_in m 1) then 0 else 1
+written m = if slot_ok m 0 then (if slot_ok m 1 then (if nat_le (count_in m 0) (count_in m 1) then 0 else 1) else 1) else 0
 
 -- the next key: the count in the other slot
 abbrev pub next : List ℕ → ℕ

@@ -7,7 +7,7 @@ ghost use Rattle.signer.specs.Store.{check, slot_ok, written, next, sound, reser
 use keys::Refusal;
 use tree::key_count;
 
-// The rule's own, though it is that of the stand-in hash, too.
+// The modulus of the rule for checks; the stand-in hash has the same one by chance.
 const MODULUS: u64 = 4_294_967_291;
 
 // The check of a count.

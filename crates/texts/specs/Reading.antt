@@ -7,4 +7,4 @@ ReadsAs {B = B} P seen o = MatchOption o ((v : B) → P v → ⊥) (λ v. P (see
 
 -- the same of the value itself
 abbrev pub Reads : {A : Type 0} → (P : A → Type 0) → Option A → Type 0
-Reads {A = A} P o = MatchOption o ((v : A) → P v → ⊥) P
+Reads P o = ReadsAs P (λ v. v) o

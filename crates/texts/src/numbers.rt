@@ -1,5 +1,5 @@
 // A line of numbers: a word, and each number in sixteens after one space.
-ghost use Rattle.std.specs.Prelude.{◌≡◌, ◌++◌, map, IfOk};
+ghost use Rattle.std.specs.Prelude.{◌≡◌, map, IfOk};
 ghost use Rattle.hash.specs.Value.{value_of};
 ghost use Rattle.texts.specs.Reading.{ReadsAs};
 ghost use Rattle.signatures.specs.Lines.{numbers_line};
