@@ -1,7 +1,7 @@
 -- What it tells that a refusal does not apply.
 use Rattle.std.proofs.Common.{◌≡◌, ℕ, ◌≤◌, Bool, true, false, cond, ◌&&◌, leb, Some, None, Ok, Option, refl, subst}
 use Rattle.std.proofs.lemmas.Bool.{leb-true, and_parts}
-use Rattle.keys.specs.Limits.{built_levels, max_bits}
+use Rattle.keys.specs.Limits.{max_levels, max_bits}
 use Rattle.keys.specs.Refusals.{first, levels_refusal, bits_refusal, Unless}
 use Rattle.keys.specs.declared.refusal.Refusal.{Refusal}
 
@@ -10,8 +10,8 @@ pub passed : (t : Bool) (r : Refusal) → None ≡ cond t None (Some r) → t �
 passed true r e = refl
 passed false r e = absurd cc
 
-pub levels_taken : (l : ℕ) → None ≡ levels_refusal l → l ≤ built_levels
-levels_taken l e = leb-true l built_levels (passed (leb l built_levels) _ e)
+pub levels_taken : (l : ℕ) → None ≡ levels_refusal l → l ≤ max_levels
+levels_taken l e = leb-true l max_levels (passed (leb l max_levels) _ e)
 
 pub bits_taken : (n : ℕ) → None ≡ bits_refusal n → (1 ≤ n) × (n ≤ max_bits)
 bits_taken n e =

@@ -7,7 +7,3 @@ max_levels = 20
 
 abbrev pub max_bits : ℕ
 max_bits = 256
-
--- the most levels of a tree that the code builds so far: a tree of one key, with no level
-abbrev pub built_levels : ℕ
-built_levels = 0

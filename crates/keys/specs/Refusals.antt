@@ -1,6 +1,6 @@
 -- The refusals: the number and the place of each, and when the first two apply that need no store. Assumes nothing: these are definitions.
 use Rattle.std.specs.Prelude.{◌≡◌, ℕ, if◌then◌else◌, ◌&&◌, List, ◌++◌, Some, None, Ok, Err, codes, decimal, Option, Result, nat_le}
-use Rattle.keys.specs.Limits.{built_levels, max_bits}
+use Rattle.keys.specs.Limits.{max_levels, max_bits}
 use Rattle.keys.specs.declared.refusal.Refusal.{Refusal}
 use Rattle.keys.specs.declared.refusal.Refusal.TheVariants.{Levels, Store, NextKey, Bits, Line}
 
@@ -31,7 +31,7 @@ first None next = next
 
 -- more levels than a tree may have
 abbrev pub levels_refusal : ℕ → Option Refusal
-levels_refusal l = if nat_le l built_levels then None else Some (Levels l)
+levels_refusal l = if nat_le l max_levels then None else Some (Levels l)
 
 -- no bits, or more than a key may have
 abbrev pub bits_refusal : ℕ → Option Refusal

@@ -18,9 +18,6 @@ impl Signer {
 
     pub const MAX_BITS: usize = 256;
 
-    // How many levels the code builds so far.
-    pub const BUILT_LEVELS: u64 = 0;
-
     pub fn key(&self, index: u64) -> OneTimeKey
         ensures seed { result.seed ≡ self.now.seed }
         ensures index { result.index ≡ index }
@@ -34,7 +31,7 @@ impl Signer {
     pub fn refuse_levels(levels: u64) -> Result<(), Refusal>
         ensures { Unless (levels_refusal levels) result (λ _. ⊤) }
     {
-        if levels > Self::BUILT_LEVELS {
+        if levels > Self::MAX_LEVELS as u64 {
             return Err(Refusal::Levels(levels));
         }
         Ok(())

@@ -1,18 +1,18 @@
 -- The signer's own paths, one level further up.
-use Rattle.std.proofs.Common.{◌≡◌, ℕ, zero, suc, ◌+◌, ◌-◌, ◌*◌, ◌/◌, ◌%◌, ◌^◌, ◌<◌, ◌≤◌, List, [], ◌∷◌, ◌++◌, map, length, take, set, sym, refl, ap, ◌∙◌, mod-eq_of_lt, pow-suc, div-one, add-one, arith, shl_lt, shr-shr, shr_lt}
+use Rattle.std.proofs.Common.{◌≡◌, ℕ, zero, suc, ◌+◌, ◌-◌, ◌*◌, ◌/◌, ◌%◌, ◌^◌, ◌<◌, List, [], ◌∷◌, ◌++◌, map, length, take, set, sym, refl, ap, ◌∙◌, mod-eq_of_lt, pow-suc, div-one, add-one, arith, shl_lt, shr-shr, shr_lt}
 use lib.Pow.{shl-shr}
 use Rattle.hash.specs.Mix.{Mix}
 use Rattle.hash.proofs.Fronts.{front_more}
 use Rattle.keys.specs.Keys.{leaf}
 use Rattle.tree.specs.Tree.{node, beside, path_from, fork}
-use Rattle.tree.proofs.Walks.{fork_own, beside_below}
+use Rattle.tree.proofs.Walks.{half_up, fork_own, beside_below}
 
 -- the first leaf below a node is below it
 pub first_leaf : (x l : ℕ) → x * 2 ^ l < 2 ^ 64 → x * 2 ^ l % 2 ^ 64 / 2 ^ l ≡ x
 first_leaf x l h = rw (mod-eq_of_lt {n = x * 2 ^ l} {m = 2 ^ 64} h) (shl-shr x l)
 
 -- the node beside one that is above a key is above keys of 64 bits, too
-pub beside_small : (m x : ℕ) → m ≤ 20 → x < 2 ^ 64 → beside (x / 2 ^ m) * 2 ^ m < 2 ^ 64
+pub beside_small : (m x : ℕ) → m < 64 → x < 2 ^ 64 → beside (x / 2 ^ m) * 2 ^ m < 2 ^ 64
 beside_small m x b l =
     let full : (64 - m) + m ≡ 64 = omega arith in
     let step : 64 - m ≡ suc (63 - m) = omega arith in
@@ -22,15 +22,12 @@ beside_small m x b l =
     let s : beside (x / 2 ^ m) < 2 ^ (64 - m) = omega (arith, below, half) in
     rw full at (shl_lt (64 - m) m s)
 
-half_up : (x m : ℕ) → x / 2 ^ m / 2 ≡ x / 2 ^ suc m
-half_up x m = shr-shr x m 1 ∙ ap (λ (k : ℕ). x / 2 ^ k) (add-one m)
-
 -- the node above two is worked out of the one on the way and the one beside it
 pub node_up : (h : Mix) (n s m x own other r : ℕ) → r ≡ h (fork (x / 2 ^ m) own other) → own ≡ node h n s m (x / 2 ^ m) → other ≡ node h n s m (beside (x / 2 ^ m)) →
     r ≡ node h n s (m + 1) (x / 2 ^ (m + 1))
 unfolding node
 node_up h n s m x own other r e o b =
-    rw (add-one m, ← half_up x m) (e ∙ ap h (rw (o, b) (fork_own h n s m (x / 2 ^ m))))
+    rw (← half_up x m, add-one m) (e ∙ ap h (rw (o, b) (fork_own h n s m (x / 2 ^ m))))
 
 -- a path up to the next level has one number more, at its end
 path_push : (h : Mix) (n s d u x t : ℕ) → d + u ≡ t → path_from h n s d (suc u) x ≡ path_from h n s d u x ++ (node h n s t (beside (x / 2 ^ u)) ∷ [])

@@ -1,5 +1,5 @@
 -- Two to the power of a number, as the tree counts its keys.
-use Rattle.std.proofs.Common.{◌≡◌, ℕ, zero, suc, ◌*◌, ◌%◌, ◌^◌, ◌<◌, ◌≤◌, cond, ltb, Some, None, sym, refl, ◌∙◌, inl, inr, mod-eq_of_lt, one-mul, arith, pow_mono}
+use Rattle.std.proofs.Common.{◌≡◌, ℕ, zero, suc, ◌*◌, ◌/◌, ◌%◌, ◌^◌, ◌<◌, ◌≤◌, cond, ltb, Some, None, sym, refl, ◌∙◌, inl, inr, mod-eq_of_lt, one-mul, zero-add, arith, pow_mono, shr_lt}
 use lib.Pow.{pow-lt}
 use Rattle.std.proofs.lemmas.Bool.{cases_Bool, cond-true, ltb-false}
 use Rattle.tree.specs.Tree.{power}
@@ -20,6 +20,13 @@ pub above : (k n : ℕ) → k < 2 ^ 64 → 64 ≤ n → k < power n
 above k n h le =
     let m : 2 ^ 64 ≤ 2 ^ n = pow_mono le in
     let p = power_is n in omega arith
+
+-- and nothing is left of it where that many of its bits are gone
+pub spent : (k n : ℕ) → k < 2 ^ 64 → 64 ≤ n → k / 2 ^ n ≡ 0
+spent k n h le =
+    let m : 2 ^ 64 ≤ 2 ^ n = pow_mono le in
+    let small : k < 2 ^ n = omega (arith, m, h) in
+    let below : k / 2 ^ n < 1 = shr_lt 0 n (rw (zero-add n) small) in omega (arith, below)
 
 -- where the number of keys is not told, there are at least 64 levels
 pub far : (l : ℕ) → None ≡ cond (ltb l 64) (Some (power l)) None → 64 ≤ l

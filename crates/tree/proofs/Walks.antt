@@ -1,9 +1,8 @@
 -- The walk up: what it does at each step, that it comes to the root along the tree's own path, and the way back down.
-use Rattle.std.proofs.Common.{◌≡◌, ℕ, zero, suc, ◌+◌, ◌-◌, ◌*◌, ◌/◌, ◌%◌, ◌<◌, ◌≤◌, List, ◌∷◌, map, length, get_or, drop, refl, ap, ◌∙◌, inl, inr, arith}
+use Rattle.std.proofs.Common.{◌≡◌, ℕ, zero, suc, ◌+◌, ◌-◌, ◌*◌, ◌/◌, ◌%◌, ◌^◌, ◌<◌, ◌≤◌, List, ◌∷◌, map, length, get_or, drop, refl, ap, ◌∙◌, inl, inr, arith, shr-shr}
 use Rattle.std.proofs.lemmas.List.{drop_more, drop_all}
 use Rattle.std.proofs.lemmas.Bool.{cases_eq, eq-eqb, ne_eqb}
 use Rattle.hash.specs.Mix.{Mix}
-use Rattle.keys.specs.Keys.{leaf}
 use Rattle.tree.specs.Tree.{power, node_row, node, beside, path_from, fork, up}
 
 pub fork_even : (x v p : ℕ) → x % 2 ≡ 0 → fork x v p ≡ node_row v p
@@ -14,16 +13,15 @@ pub fork_odd : (x v p : ℕ) → (x % 2 ≡ 0 → ⊥) → fork x v p ≡ node_r
 unfolding fork
 fork_odd x v p e = rw (ne_eqb (x % 2) 0 e)
 
--- a tree of no level is its leaf
-pub no_level : (h : Mix) (n s l x : ℕ) → l ≡ 0 → node h n s l x ≡ leaf h n s x
-unfolding node
-no_level h n s l x e = rw e
+-- the place above one on the way up from a key
+pub half_up : (x m : ℕ) → x / 2 ^ m / 2 ≡ x / 2 ^ (m + 1)
+half_up x m = shr-shr x m 1
 
 -- one turn of the loop that walks up, and its end
-pub up_more : {X : Type 0} (h : Mix) (f : X → ℕ) (x v w : ℕ) (ps : List X) (i : ℕ) (d : X) → i < length ps → w ≡ h (fork x v (f (get_or ps i d))) →
-    up h (map f (drop (i + 1) ps)) (x / 2) w ≡ up h (map f (drop i ps)) x v
+pub up_more : {X : Type 0} (h : Mix) (f : X → ℕ) (x v w : ℕ) (ps : List X) (i : ℕ) (d : X) → i < length ps → w ≡ h (fork (x / 2 ^ i) v (f (get_or ps i d))) →
+    up h (map f (drop (i + 1) ps)) (x / 2 ^ (i + 1)) w ≡ up h (map f (drop i ps)) (x / 2 ^ i) v
 unfolding up
-up_more h f x v w ps i d l e = rw (e, drop_more ps i d l)
+up_more h f x v w ps i d l e = rw (← half_up x i, drop_more ps i d l, e)
 
 pub up_all : {X : Type 0} (h : Mix) (f : X → ℕ) (x v : ℕ) (ps : List X) (i : ℕ) → length ps ≤ i → up h (map f (drop i ps)) x v ≡ v
 unfolding up

@@ -1,7 +1,7 @@
 // The tree over the keys: how many there are, the walk up from a leaf along an authentication path, and the signer's own tree.
 #![tactic(auto)]
 
-ghost use Rattle.std.specs.Prelude.{◌≡◌, map, if◌then◌else◌, Some, None, nat_lt};
+ghost use Rattle.std.specs.Prelude.{◌≡◌, ◌/◌, ◌%◌, ◌^◌, map, if◌then◌else◌, not, Some, None, ◌==◌, nat_lt};
 ghost use Rattle.hash.specs.Value.{value_of};
 ghost use Rattle.tree.specs.Tree.{power, node_row, fork, up};
 
@@ -35,27 +35,33 @@ fn parent<H: RowHasher>(left: &Number, right: &Number) -> Number
     H::hash(Purpose::Node, &[*left, *right])
 }
 
-// The node above one at a place, from its value and the one beside it: left or right by the place's lowest bit.
-#[tactic(auto, unfolding(crate::specs::Tree::fork))]
-fn join<H: RowHasher>(place: u64, own: &Number, beside: &Number) -> Number
-    ensures { value_of result ≡ H.mix (fork place (value_of own.now) (value_of beside.now)) }
+// A key's bit at a level: whether the node on the way up from its leaf is a right one there. Past the last bit none is set.
+#[tactic(auto, using(crate::proofs::Powers::spent))]
+fn is_right(key: u64, level: usize) -> bool
+    ensures { result ≡ not (key / 2 ^ level % 2 == 0) }
 {
-    if place % 2 == 0 {
-        parent::<H>(own, beside)
-    } else {
+    level < 64 && (key >> level) % 2 == 1
+}
+
+// The node above one on the way up from a key's leaf, from its value and the one beside it: left or right by the key's bit at its level.
+#[tactic(auto, unfolding(crate::specs::Tree::fork))]
+fn join<H: RowHasher>(key: u64, level: usize, own: &Number, beside: &Number) -> Number
+    ensures { value_of result ≡ H.mix (fork (key / 2 ^ level) (value_of own.now) (value_of beside.now)) }
+{
+    if is_right(key, level) {
         parent::<H>(beside, own)
+    } else {
+        parent::<H>(own, beside)
     }
 }
 
-// Where the walk up from a key's leaf along a path comes to. It takes the key's bits one by one.
+// Where the walk up from a key's leaf along a path comes to, level by level. A path can have more levels than a key has bits.
 pub fn climb<H: RowHasher>(key: u64, leaf: &Number, path: &[Number]) -> Number
     ensures { value_of result ≡ up H.mix (map value_of path.now) key (value_of leaf.now) }
 {
     let mut value = *leaf;
-    let mut place = key;
-    for beside in path {
-        value = join::<H>(place, &value, beside);
-        place /= 2;
+    for (level, beside) in path.iter().enumerate() {
+        value = join::<H>(key, level, &value, beside);
     }
     value
 }

@@ -1,4 +1,4 @@
-// The signer's own tree: its root, its nodes and its authentication paths. Nothing holds the tree: a node is made on the walk up from its first leaf, and on that walk each leaf below it is worked out once. That what stands behind the numbers that are written is as it was is said by `drop`, which is as short as a name.
+// The signer's own tree: its root, its nodes and its authentication paths. Nothing holds the tree: a node is made on the walk up from its first leaf, and on that walk each leaf below it is worked out once: 2^l leaves and 2^l - 1 nodes above them for a root or a path of l levels. That what stands behind the numbers that are written is as it was is said by `drop`, which is as short as a name.
 ghost use Rattle.std.specs.Prelude.{◌≡◌, ◌*◌, ◌/◌, ◌^◌, ◌<◌, ◌≤◌, map, length, take, drop, OnErr};
 ghost use Rattle.hash.specs.Value.{value_of};
 ghost use Rattle.keys.specs.Limits.{max_levels};
@@ -25,17 +25,18 @@ pub struct Tree {
 }
 
 impl Tree {
-    // The root. So far a tree has no level, and its root is the leaf of its one key.
+    // The root: the node at the top. It needs room for one number a level.
     pub fn root<H: RowHasher>(&self) -> Result<Number, Refusal>
         ensures { Unless (tree_refusal self.now.signer.levels self.now.bits) result (λ v. value_of v ≡ node H.mix self.now.bits (value_of self.now.signer.seed) self.now.signer.levels 0) }
     {
         self.signer.refuse(self.bits)?;
-        Ok(self.signer.key(0).leaf::<H>(self.bits))
+        let mut scratch = [Number::from(0); Signer::MAX_LEVELS];
+        Ok(self.make_node::<H>(self.signer.levels as usize, 0, &mut scratch))
     }
 
     // The node at a place of a level. It is the end of the path from the first leaf below it, and that path's numbers are of no further use.
     #[cycle(make_node_make_path)]
-    fn make_node<H: RowHasher>(&self, level: u64, place: u64, scratch: &mut [Number]) -> Number
+    fn make_node<H: RowHasher>(&self, level: usize, place: u64, scratch: &mut [Number]) -> Number
         requires few { level ≤ max_levels }
         requires small { place * 2 ^ level < 2 ^ 64 }
         requires room { level ≤ length scratch.old }
@@ -47,7 +48,7 @@ impl Tree {
 
     // The authentication path from a key up to a level, and the node that it leads to. The node beside is made first, since it needs the room in which the path below it is written afterwards: a lent array, since a device has no heap.
     #[cycle(make_node_make_path)]
-    fn make_path<H: RowHasher>(&self, level: u64, key: u64, path: &mut [Number]) -> Number
+    fn make_path<H: RowHasher>(&self, level: usize, key: u64, path: &mut [Number]) -> Number
         requires few { level ≤ max_levels }
         requires room { level ≤ length path.old }
         ensures value { value_of result ≡ node H.mix self.now.bits (value_of self.now.signer.seed) level (key / 2 ^ level) }
@@ -58,11 +59,10 @@ impl Tree {
             return self.signer.key(key).leaf::<H>(self.bits);
         }
         let below = level - 1;
-        let place = key >> below;
-        let other = self.make_node::<H>(below, place_beside(place), path);
+        let other = self.make_node::<H>(below, place_beside(key >> below), path);
         let own = self.make_path::<H>(below, key, path);
-        path[below as usize] = other;
-        join::<H>(place, &own, &other)
+        path[below] = other;
+        join::<H>(key, below, &own, &other)
     }
 
     // Writes the authentication path of a key in front, and nothing behind it. Into a lent array, since a device has no heap.
@@ -76,7 +76,7 @@ impl Tree {
     {
         let signer = &self.signer;
         signer.refuse(self.bits)?;
-        self.make_path::<H>(signer.levels, key, path);
+        self.make_path::<H>(signer.levels as usize, key, path);
         Ok(())
     }
 }
