@@ -8,6 +8,7 @@ ghost use Rattle.signatures.specs.Views.{MadeIn};
 use crate::room::SignatureRoom;
 use hash::{Number, RowHasher};
 use keys::{OneTimeKey, Refusal, Signer};
+use tree::Tree;
 
 // Writes for each bit its secret number, and what is shown of the other one, and nothing behind them (said by `drop`, which is as short as a name). Into lent arrays, since a device has no heap.
 fn reveal<H: RowHasher>(
@@ -29,7 +30,7 @@ fn reveal<H: RowHasher>(
     }
 }
 
-// Makes the signature of a row of bits by a key, in the room; where it is refused the room is as it was. So far a tree has no level, and the authentication path no number.
+// Makes the signature of a row of bits by a key, in the room; where it is refused the room is as it was.
 pub fn sign_with<H: RowHasher>(
     signer: &Signer,
     key: u64,
@@ -39,10 +40,14 @@ pub fn sign_with<H: RowHasher>(
     ensures answer { Unless (tree_refusal signer.now.levels (length bits.now)) result (λ _. MadeIn (signed H.mix (value_of signer.now.seed) signer.now.levels key bits.now) room.old room.new) }
     ensures same { OnErr result (room.new ≡ room.old) }
 {
-    signer.refuse(bits.len() as u64)?;
+    let tree = Tree {
+        signer: *signer,
+        bits: bits.len() as u64,
+    };
+    tree.authentication_path::<H>(key, &mut room.path)?;
     reveal::<H>(&signer.key(key), bits, &mut room.parts, &mut room.others);
     room.key = key;
     room.bits = bits.len();
-    room.levels = 0;
+    room.levels = signer.levels as usize;
     Ok(())
 }

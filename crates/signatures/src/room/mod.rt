@@ -1,5 +1,6 @@
 // The fixed room that a signature is made in: a device has no heap. It stands in a file of its own, since its ghost fields import what the file imports.
 ghost use Rattle.std.specs.Prelude.{◌≤◌};
+ghost use Rattle.keys.specs.Limits.{max_levels, max_bits};
 
 use hash::Number;
 use keys::Signer;
@@ -14,8 +15,8 @@ pub struct SignatureRoom {
     pub(crate) parts: [Number; Signer::MAX_BITS],
     pub(crate) others: [Number; Signer::MAX_BITS],
     pub(crate) path: [Number; Signer::MAX_LEVELS],
-    ghost few_bits: { bits ≤ 256 },
-    ghost few_levels: { levels ≤ 20 },
+    ghost few_bits: { bits ≤ max_bits },
+    ghost few_levels: { levels ≤ max_levels },
 }
 
 mod methods;
