@@ -4,7 +4,7 @@ use Rattle.std.proofs.lemmas.Bool.Decides.{nat_tests}
 use Rattle.std.proofs.lemmas.Bool.{cases_Bool}
 use Rattle.hash.specs.Members.{In, Rising}
 use Rattle.hash.proofs.Members.{In-append, from_map, one_each}
-use Rattle.keys.specs.Limits.{built_levels}
+use Rattle.keys.specs.Limits.{max_levels}
 use Rattle.keys.specs.declared.refusal.Refusal.{Refusal}
 use Rattle.tree.specs.Tree.{power}
 use Rattle.signer.specs.Answers.{refusal, unrefused, unless_refused}
@@ -103,7 +103,7 @@ request_steps =
 -- from a store that is not sound nothing is given
 unsound_refused : (l n : ℕ) (m : List ℕ) → sound m ≡ false → (e : Refusal) × (refusal l m n ≡ Some e)
 unsound_refused l n m s =
-    elim (cases_Bool (leb l built_levels)) [ inl t ↦ rw (t, s) (_, refl) | inr f ↦ rw f (_, refl) ]
+    elim (cases_Bool (leb l max_levels)) [ inl t ↦ rw (t, s) (_, refl) | inr f ↦ rw f (_, refl) ]
 
 unsound_none : (m : List ℕ) (qs : List Request) → sound m ≡ false → given m qs ≡ []
 unsound_none m [] s = refl

@@ -2,11 +2,18 @@
 use Rattle.std.proofs.Common.{◌≡◌, ℕ, zero, suc, ◌*◌, ◌/◌, ◌%◌, ◌^◌, ◌<◌, ◌≤◌, cond, ltb, Some, None, sym, refl, ◌∙◌, inl, inr, mod-eq_of_lt, one-mul, zero-add, arith, pow_mono, shr_lt}
 use lib.Pow.{pow-lt}
 use Rattle.std.proofs.lemmas.Bool.{cases_Bool, cond-true, ltb-false}
+use Rattle.keys.specs.Limits.{max_levels}
 use Rattle.tree.specs.Tree.{power}
 
 pub power_is : (n : ℕ) → power n ≡ 2 ^ n
 power_is zero = refl
 power_is (suc n) = omega (arith, power_is n)
+
+-- no tree that a signer may have has more keys than this
+pub few_keys : (l : ℕ) → l ≤ max_levels → power l ≤ 2 ^ 20
+few_keys l h =
+    let m : 2 ^ l ≤ 2 ^ 20 = pow_mono h in
+    let p = power_is l in omega arith
 
 -- what a shift of 1 gives in 64 bits
 pub shifted : (n : ℕ) → n < 64 → 1 * 2 ^ n % 2 ^ 64 ≡ power n
