@@ -2,8 +2,9 @@
 """A second account of the program, written from the rules alone: reads the program's lines on standard input and prints what it should print.
 
 Run by hand, not by the gate:  python3 tests/model.py < crates/kachumpe/stdin | diff - crates/kachumpe/stdout
-It has the stand-in hash, trees of no level, and power that always lasts.
+It has the stand-in hash, and power that always lasts. Other tests import it.
 """
+import functools
 import re
 import sys
 
@@ -25,8 +26,24 @@ def shown(number):
     return stand_in([1, number])
 
 
-def leaf(seed, key, bits):
-    return stand_in([2] + [shown(secret(seed, key, j, b)) for j in range(bits) for b in (0, 1)])
+@functools.lru_cache(maxsize=None)
+def node(seed, bits, level, place):
+    if level == 0:
+        return stand_in([2] + [shown(secret(seed, place, j, b)) for j in range(bits) for b in (0, 1)])
+    return stand_in([3, node(seed, bits, level - 1, 2 * place), node(seed, bits, level - 1, 2 * place + 1)])
+
+
+def walk(key, value, path):
+    for level, beside in enumerate(path):
+        value = stand_in([3, beside, value] if key >> level & 1 else [3, value, beside])
+    return value
+
+
+def signature(seed, levels, key, bits):
+    parts = [secret(seed, key, j, b) for j, b in enumerate(bits)]
+    others = [shown(secret(seed, key, j, 1 - b)) for j, b in enumerate(bits)]
+    path = [node(seed, len(bits), level, key >> level ^ 1) for level in range(levels)]
+    return key, parts, others, path
 
 
 def check(count):
@@ -38,8 +55,8 @@ def text_bits(text, n):
     return [(digest >> (255 - k)) & 1 for k in range(min(n, 256))]
 
 
-def hexes(numbers):
-    return "".join(" %064x" % x for x in numbers)
+def signature_lines(key, parts, others, path):
+    return ["key %d" % key] + [word + "".join(" %064x" % x for x in row) for word, row in (("parts", parts), ("others", others), ("path", path))]
 
 
 class Session:
@@ -55,14 +72,14 @@ class Session:
         return right, written
 
     def refusal(self):
-        if self.levels > 0:
+        if self.levels > 20:
             return "1 %d" % self.levels
         if len(self.store) != 4:
             return "2 %d" % len(self.store)
         right, written = self.slots()
         if not any(right):
             return "2 0"
-        if self.store[2 * (1 - written)] > 1:
+        if self.store[2 * (1 - written)] > 2**self.levels:
             return "3 %d" % self.store[2 * (1 - written)]
         return self.bits_refusal()
 
@@ -70,9 +87,9 @@ class Session:
         return None if 1 <= self.bits <= 256 else "4 %d" % self.bits
 
     def root(self):
-        if self.levels > 0:
+        if self.levels > 20:
             return "1 %d" % self.levels
-        return self.bits_refusal() or "%064x" % leaf(self.seed, 0, self.bits)
+        return self.bits_refusal() or "%064x" % node(self.seed, self.bits, self.levels, 0)
 
     def sign(self, text):
         refused = self.refusal()
@@ -80,25 +97,19 @@ class Session:
             return refused
         _, written = self.slots()
         key = self.store[2 * (1 - written)]
-        if key == 1:
+        if key == 2**self.levels:
             return "all given"
         self.store[2 * written : 2 * written + 2] = [key + 1, check(key + 1)]
-        bits = text_bits(text, self.bits)
-        parts = [secret(self.seed, key, j, b) for j, b in enumerate(bits)]
-        others = [shown(secret(self.seed, key, j, 1 - b)) for j, b in enumerate(bits)]
-        return "key %d\nparts%s\nothers%s\npath" % (key, hexes(parts), hexes(others))
+        return "\n".join(signature_lines(*signature(self.seed, self.levels, key, text_bits(text, self.bits))))
 
     def look(self, root, text, key, parts, others, path):
         bits = text_bits(text, self.bits)
-        if key >= 2**self.levels or (len(parts), len(others), len(path)) != (len(bits), len(bits), self.levels):
+        if (len(parts), len(others), len(path)) != (len(bits), len(bits), self.levels) or key >> self.levels:
             return "no"
         row = [2]
         for b, p, o in zip(bits, parts, others):
             row += [o, shown(p)] if b else [shown(p), o]
-        value = stand_in(row)
-        for level, p in enumerate(path):
-            value = stand_in([3, p, value] if key >> level & 1 else [3, value, p])
-        return "accepted" if value == root else "no"
+        return "accepted" if walk(key, stand_in(row), path) == root else "no"
 
 
 def decimal(word, limit):
@@ -120,12 +131,12 @@ def read_signature(lines):
     return (key, *rows), None
 
 
-def main():
-    data = sys.stdin.buffer.read()
+def answers(data):
+    """The lines that the program prints for these."""
     lines = data.split(b"\n")
     if lines[-1] == b"":
         lines.pop()
-    session, at = Session(), 0
+    session, at, printed = Session(), 0, []
     while at < len(lines):
         line, number = lines[at], at
         at += 1
@@ -135,21 +146,24 @@ def main():
                 session.store = words
                 continue
         if m := re.fullmatch(rb"levels ([0-9]+) bits ([0-9]+) seed ([0-9]+)", line):
-            words = [decimal(w, 2**64) for w in m.groups()]
+            words = [decimal(w, limit) for w, limit in zip(m.groups(), (2**64, 2**64, 2**256))]
             if None not in words:
                 session.levels, session.bits, session.seed = words
                 continue
         if line == b"root":
-            print(session.root())
+            printed.append(session.root())
         elif line.startswith(b"sign "):
-            print(session.sign(line[5:]))
+            printed.append(session.sign(line[5:]))
         elif m := re.fullmatch(rb"look ([0-9a-f]{64}) (.*)", line, re.S):
             four = [lines[k] if k < len(lines) else None for k in range(at, at + 4)]
-            signature, bad = read_signature(four)
-            print("5 %d" % (at + bad) if signature is None else session.look(int(m.group(1), 16), m.group(2), *signature))
+            read, bad = read_signature(four)
+            printed.append("5 %d" % (at + bad) if read is None else session.look(int(m.group(1), 16), m.group(2), *read))
             at += 4
         else:
-            print("5 %d" % number)
+            printed.append("5 %d" % number)
+    return printed
 
 
-main()
+if __name__ == "__main__":
+    for answer in answers(sys.stdin.buffer.read()):
+        print(answer)

@@ -1,0 +1,234 @@
+#!/usr/bin/env python3
+"""Writes the lines of the program's run in the gate, and what the program must answer.
+
+Run by hand, not by the gate, where an example is added:  python3 tests/examples.py
+It writes crates/kachumpe/stdin, and crates/kachumpe/stdout by tests/model.py. Of each example it says itself what is answered, and fails where the model says something else.
+"""
+import sys
+
+import model
+
+HERE = sys.path[0]
+DEED = "a deed"
+
+
+class Run:
+    def __init__(self):
+        self.lines, self.expected = [], []
+
+    def say(self, *lines):
+        """Lines that are answered with nothing."""
+        self.lines += lines
+
+    def ask(self, line, answer):
+        self.lines.append(line)
+        self.expected.append(answer)
+
+    def look(self, root, text, lines, answer):
+        self.ask("look %064x %s" % (root, text), answer)
+        self.lines += lines
+
+
+class Tree:
+    """A signer's tree, and its signatures of one text."""
+
+    def __init__(self, levels, bits, seed=17):
+        self.levels, self.bits, self.seed = levels, bits, seed
+        self.line = "levels %d bits %d seed %d" % (levels, bits, seed)
+        self.root = model.node(seed, bits, levels, 0)
+
+    def signature(self, key, text=DEED):
+        return model.signature(self.seed, self.levels, key, model.text_bits(text.encode(), self.bits))
+
+    def lines(self, key, text=DEED):
+        return model.signature_lines(*self.signature(key, text))
+
+    def printed_root(self):
+        return "%064x" % self.root
+
+
+def store(key):
+    """A store whose next key is this one."""
+    return "store %d %d 0 4" % (key, model.check(key))
+
+
+def other(number):
+    return number ^ 1 << 230
+
+
+def spoiled(levels, key, parts, others, path):
+    """Signatures that differ in one thing from a right one, and none of which is accepted."""
+    yield key ^ 1, parts, others, path
+    yield key + 2**levels, parts, others, path
+    yield 2**levels, parts, others, path
+    yield 2**64 - 1, parts, others, path
+    for place, row in enumerate((parts, others, path)):
+        for changed in [row[:j] + [other(row[j])] + row[j + 1 :] for j in range(len(row))] + [row[:-1]] * (len(row) > 0) + [row + [other(0)], row + row[-1:]]:
+            if changed != row:
+                rows = [parts, others, path]
+                rows[place] = changed
+                yield (key, *rows)
+    yield key, others, parts, path
+    if path[::-1] != path:
+        yield key, parts, others, path[::-1]
+
+
+def one_key(run):
+    """One key for four bits, and the refusals."""
+    tree = Tree(0, 4)
+    key, parts, others, path = tree.signature(0)
+    right = tree.lines(0)
+    run.say("store 0 3 0 3", tree.line)
+    run.ask("root", tree.printed_root())
+    run.ask("sign " + DEED, "\n".join(right))
+    run.ask("sign a second deed", "all given")
+    run.look(tree.root, DEED, right, "accepted")
+    changed = (
+        (key, parts[:1] + parts[2:3] + parts[2:], others, path),
+        (key, parts, parts[:1] + others[1:], path),
+        (key, parts[:-1], others, path),
+        (1, parts, others, path),
+        (key, parts, others, parts[:1]),
+    )
+    for numbers in changed:
+        run.look(tree.root, DEED, model.signature_lines(*numbers), "no")
+    run.look(tree.root, "another deed", right, "no")
+    run.look(parts[0], DEED, right, "no")
+    for line in ("levels 1 bits 4 seed 17", "levels 0 bits 5 seed 17"):
+        run.say(line)
+        run.look(tree.root, DEED, right, "no")
+    run.say("levels 21 bits 0 seed 17")
+    run.ask("sign " + DEED, "1 21")
+    run.ask("root", "1 21")
+    run.say("levels 0 bits 0 seed 17")
+    run.ask("root", "4 0")
+    for numbers, answer in (("", "2 0"), (" 0 3 0", "2 3"), (" 0 4 0 4", "2 0"), (" 2 17 2 17", "3 2"), (" 1 10 0 3", "4 0")):
+        run.say("store" + numbers)
+        run.ask("sign " + DEED, answer)
+    run.say("levels 0 bits 257 seed 17")
+    run.ask("root", "4 257")
+    run.ask("sign " + DEED, "4 257")
+    whole = Tree(0, 256, 5)
+    run.say(whole.line, "store 0 3 0 4")
+    run.ask("sign ", "\n".join(whole.lines(0, "")))
+    run.ask("sign ", "all given")
+    for line in ("root ", "levels 0 bits 4", "store 4294967296 3 0 3", "levels 0 bits 4 seed +17"):
+        run.ask(line, "5 %d" % len(run.lines))
+    run.say(tree.line)
+    run.look(tree.root, DEED, ["key x"] + right[1:], "5 %d" % (len(run.lines) + 1))
+    run.look(tree.root, DEED, right[:1] + [right[1].upper()] + right[2:], "5 %d" % (len(run.lines) + 2))
+
+
+def trees(run):
+    """Each of some levels with each of some bits: the root, a signature, and looking at it."""
+    for levels, key in ((0, 0), (1, 1), (3, 5)):
+        for bits in (1, 4, 255, 256):
+            tree = Tree(levels, bits)
+            run.say(store(key), tree.line)
+            run.ask("root", tree.printed_root())
+            run.ask("sign " + DEED, "\n".join(tree.lines(key)))
+            run.look(tree.root, DEED, tree.lines(key), "accepted")
+        four = Tree(levels, 4)
+        run.say(four.line)
+        for numbers in spoiled(levels, *four.signature(key)):
+            run.look(four.root, DEED, model.signature_lines(*numbers), "no")
+
+
+def all_keys(run):
+    """A tree is used up: each key signs one text."""
+    tree = Tree(3, 1)
+    run.say("store 0 3 0 3", tree.line)
+    for key in range(8):
+        run.ask("sign deed %d" % key, "\n".join(tree.lines(key, "deed %d" % key)))
+    run.ask("sign deed 8", "all given")
+    for key in range(8):
+        run.look(tree.root, "deed %d" % key, tree.lines(key, "deed %d" % key), "accepted")
+
+
+def limits(run):
+    """The most levels, and what is refused first."""
+    run.say(store(8), "levels 3 bits 0 seed 17")
+    run.ask("sign " + DEED, "4 0")
+    run.say(store(9))
+    run.ask("sign " + DEED, "3 9")
+    run.say("levels 18446744073709551615 bits 0 seed 17")
+    run.ask("root", "1 18446744073709551615")
+    run.ask("sign " + DEED, "1 18446744073709551615")
+    run.say("levels 20 bits 0 seed 17")
+    run.ask("root", "4 0")
+    run.ask("sign " + DEED, "4 0")
+    tree = Tree(20, 1)
+    key = 699050
+    run.say(store(key), tree.line)
+    run.ask("root", tree.printed_root())
+    run.ask("sign " + DEED, "\n".join(tree.lines(key)))
+    run.look(tree.root, DEED, tree.lines(key), "accepted")
+    run.say(store(2**20))
+    run.ask("sign " + DEED, "all given")
+
+
+def seeds(run):
+    """Seeds are decimals below 2^256."""
+    for seed in (2**64, 2**256 - 1):
+        tree = Tree(0, 1, seed)
+        run.say(tree.line)
+        run.ask("root", tree.printed_root())
+    for spelled in ("%d" % 2**256, "1" + "0" * 78, "", "-1"):
+        run.ask("levels 0 bits 1 seed " + spelled, "5 %d" % len(run.lines))
+    run.ask("root", tree.printed_root())
+    run.say("levels 0 bits 1 seed %0200d" % 17)
+    run.ask("root", Tree(0, 1).printed_root())
+
+
+def whatever_levels_and_bits(run):
+    """Looking is never turned away."""
+    bits = model.text_bits(DEED.encode(), 1)
+    key, parts, others, _ = model.signature(17, 0, 0, bits)
+    leaf = model.node(17, 1, 0, 0)
+    for levels, key in ((63, 2**63 - 1), (64, 2**64 - 1), (66, 2**63 + 5)):
+        path = [model.stand_in([level]) for level in range(levels)]
+        root = model.walk(key, leaf, path)
+        run.say("levels %d bits 1 seed 17" % levels)
+        run.look(root, DEED, model.signature_lines(key, parts, others, path), "accepted")
+        run.look(root, DEED, model.signature_lines(key, parts, others, path[::-1]), "no")
+        run.look(root, DEED, model.signature_lines(key ^ 1, parts, others, path), "no")
+    run.say("levels 63 bits 1 seed 17")
+    run.look(root, DEED, model.signature_lines(2**63, parts, others, path[:63]), "no")
+    for levels in (2**60, 2**64 - 1):
+        run.say("levels %d bits 1 seed 17" % levels)
+        run.look(root, DEED, model.signature_lines(key, parts, others, path), "no")
+    run.say("levels 0 bits 0 seed 17")
+    run.look(model.stand_in([2]), DEED, ["key 0", "parts", "others", "path"], "accepted")
+    run.look(model.stand_in([2]), DEED, model.signature_lines(0, parts, others, []), "no")
+    tree = Tree(0, 256)
+    for asked in (300, 2**64 - 1):
+        run.say("levels 0 bits %d seed 17" % asked)
+        run.look(tree.root, DEED, tree.lines(0), "accepted")
+
+
+def cut_off(run):
+    """The input ends in a signature."""
+    tree = Tree(0, 4)
+    run.say(tree.line)
+    run.look(tree.root, DEED, tree.lines(0)[:2], "5 %d" % (len(run.lines) + 3))
+
+
+def main():
+    run = Run()
+    for part in (one_key, trees, all_keys, limits, seeds, whatever_levels_and_bits, cut_off):
+        part(run)
+    data = "\n".join(run.lines).encode()
+    answers = model.answers(data)
+    for place, (asked, answer) in enumerate(zip(run.expected, answers)):
+        if asked != answer:
+            sys.exit("answer %d should be %s, and the model gives %s" % (place, asked[:80], answer[:80]))
+    if len(run.expected) != len(answers):
+        sys.exit("%d answers should be given, and the model gives %d" % (len(run.expected), len(answers)))
+    with open(HERE + "/../crates/kachumpe/stdin", "wb") as f:
+        f.write(data)
+    with open(HERE + "/../crates/kachumpe/stdout", "w") as f:
+        f.write("".join(answer + "\n" for answer in answers))
+    print("%d lines, %d answers: %d accepted, %d no" % (len(run.lines), len(answers), answers.count("accepted"), answers.count("no")))
+
+
+main()
