@@ -9,6 +9,7 @@ import re
 import sys
 
 M = 4294967291
+SETTINGS = re.compile(rb"levels ([0-9]+) bits ([0-9]+) seed ([0-9]+)")
 
 
 def stand_in(row):
@@ -145,7 +146,7 @@ def answers(data):
             if None not in words:
                 session.store = words
                 continue
-        if m := re.fullmatch(rb"levels ([0-9]+) bits ([0-9]+) seed ([0-9]+)", line):
+        if m := SETTINGS.fullmatch(line):
             words = [decimal(w, limit) for w, limit in zip(m.groups(), (2**64, 2**64, 2**256))]
             if None not in words:
                 session.levels, session.bits, session.seed = words
