@@ -9,10 +9,10 @@ pub power_is : (n : ℕ) → power n ≡ 2 ^ n
 power_is zero = refl
 power_is (suc n) = omega (arith, power_is n)
 
--- no tree that a signer may have has more keys than this
-pub few_keys : (l : ℕ) → l ≤ max_levels → power l ≤ 2 ^ 20
+-- no tree that a signer may have has more keys than the largest
+pub few_keys : (l : ℕ) → l ≤ max_levels → power l ≤ 2 ^ max_levels
 few_keys l h =
-    let m : 2 ^ l ≤ 2 ^ 20 = pow_mono h in
+    let m : 2 ^ l ≤ 2 ^ max_levels = pow_mono h in
     let p = power_is l in omega arith
 
 -- what a shift of 1 gives in 64 bits
