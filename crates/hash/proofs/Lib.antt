@@ -1,4 +1,5 @@
 -- The lemmas of this crate.
+mod Carries
 pub mod Fronts
 pub mod Members
 pub mod Numbers

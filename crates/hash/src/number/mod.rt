@@ -10,6 +10,7 @@ pub struct Number {
     ghost digits: { (i : ℕ) → slice_index bytes i < 256 },
 }
 
+mod arithmetic;
 mod display;
 mod equal;
 mod methods;
