@@ -3,13 +3,13 @@ use Rattle.std.proofs.Common.{◌≡◌, ℕ, zero, suc, ◌/◌, ◌%◌, ◌^�
 use Rattle.std.specs.List.{AllZip, flat_map}
 use Rattle.std.specs.Str.Iter.{LacksByte}
 use Rattle.std.proofs.lemmas.List.{append_cancel_left, drop_at, get_or_append_left, length-append, take_at}
+use Rattle.std.proofs.lemmas.Option.{cond_some}
 use Rattle.std.proofs.lemmas.Bool.{and_parts, leb-true}
 use Rattle.std.proofs.lemmas.Bool.Decides.{nat_tests}
 use Rattle.texts.specs.Commands.{StoreSpelled, DecimalBefore}
 use Rattle.texts.specs.Spaced.{Stops, FirstWord, SpacedWords}
 use Rattle.hash.specs.Hex.{hex_digit, hex}
 use Rattle.texts.specs.Spelling.{WordEnd, is_digit, all_digits, digits_value, decimal_of}
-use Rattle.texts.proofs.Answered.{some_if}
 
 -- no digit is a space
 pub digits_whole : (cs : List ℕ) → all_digits cs ≡ true → LacksByte 32 cs
@@ -18,7 +18,7 @@ digits_whole (c ∷ cs) e zero h s = let low = leb-true 48 c (and_parts _ _ (and
 digits_whole (c ∷ cs) e (suc k) h s = digits_whole cs (and_parts (is_digit c) (all_digits cs) e).1 k (omega arith) s
 
 pub decimal_whole : (limit : ℕ) (cs : List ℕ) (v : ℕ) → decimal_of limit cs ≡ Some v → LacksByte 32 cs
-decimal_whole limit cs v e = digits_whole cs (and_parts (all_digits cs) _ (and_parts _ _ (some_if _ v (digits_value cs) (sym e)).0).1).0
+decimal_whole limit cs v e = digits_whole cs (and_parts (all_digits cs) _ (and_parts _ _ (cond_some _ (digits_value cs) v e).0).1).0
 
 digit_no_space : (d : ℕ) → hex_digit d ≡ 32 → ⊥
 digit_no_space d = grind (arith, nat_tests)
@@ -75,7 +75,7 @@ before_same text word u v p q h b d =
     let same = same_word b.0 d.0 (word ++ p) (word ++ q) (decimal_whole (2 ^ 64) b.0 u b.2) (decimal_whole (2 ^ 64) d.0 v d.2) (stops_word word p h) (stops_word word q h) (sym b.1 ∙ d.1) in
     append_cancel_left word p q same.1
 
-pub not_both : (limit : ℕ) (cs ds : List ℕ) (v : ℕ) → None ≡ decimal_of limit cs → cs ≡ ds → decimal_of limit ds ≡ Some v → ⊥
+pub not_both : (limit : ℕ) (cs ds : List ℕ) (v : ℕ) → decimal_of limit cs ≡ None → cs ≡ ds → decimal_of limit ds ≡ Some v → ⊥
 not_both limit cs ds v n e f = cc
 
 -- words, each after one space: the first one, and what is left behind it

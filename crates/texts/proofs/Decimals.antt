@@ -1,9 +1,9 @@
 -- Decimals, one digit further, and what one bad digit or too large a number makes of the whole.
-use Rattle.std.proofs.Common.{◌≡◌, ℕ, zero, suc, ◌+◌, ◌-◌, ◌*◌, ◌<◌, ◌≤◌, true, false, ◌&&◌, ltb, List, [], ◌∷◌, map, length, get_or, take, drop, Some, None, sym, refl, ap, ◌∙◌, inl, inr, arith}
+use Rattle.std.proofs.Common.{◌≡◌, ℕ, zero, suc, ◌+◌, ◌-◌, ◌*◌, ◌<◌, ◌≤◌, true, false, ltb, List, [], ◌∷◌, map, length, get_or, take, drop, Some, None, sym, refl, ap, ◌∙◌, arith}
 use Rattle.std.specs.Int.Digits.{number_from_digits}
 use Rattle.std.proofs.lemmas.Int.Digits.{number_push, number_after_append, number_after_ge}
 use Rattle.std.proofs.lemmas.List.{map_more, map-append, take-append-drop}
-use Rattle.std.proofs.lemmas.Bool.{and_cases, and_from, and_parts, and_left, and_right, cond-false, le-ltb, ltb-false}
+use Rattle.std.proofs.lemmas.Bool.{and_from, and_parts, and_left, and_right, cond-false, le-ltb}
 use Rattle.texts.specs.Spelling.{is_digit, all_digits, digits_value, decimal_of}
 
 abbrev worth_of : ℕ → ℕ
@@ -32,15 +32,13 @@ one_bad [] i h d = absurd (omega arith)
 one_bad (c ∷ cs) zero h d = and_left (is_digit c) (all_digits cs) d
 one_bad (c ∷ cs) (suc i) h d = and_right (is_digit c) (all_digits cs) (one_bad cs i (omega arith) d)
 
--- a digit that is none, or that makes the number too large, refuses the whole
-pub bad : (limit : ℕ) (cs : List ℕ) (i v : ℕ) → i < length cs → v ≡ digits_value (take i cs) →
-    (is_digit (get_or cs i 0) && ltb (v * 10 + (get_or cs i 0 - 48)) limit) ≡ false → None ≡ decimal_of limit cs
-bad limit cs i v h e t =
-    let refused : (all_digits cs && ltb (digits_value cs) limit) ≡ false =
-    elim (and_cases (is_digit (get_or cs i 0)) _ t) [
-      | inl d ↦ and_left (all_digits cs) _ (one_bad cs i h d)
-      | inr f ↦
-          let large = ltb-false _ limit f in
-          and_right (all_digits cs) _ (le-ltb (digits_value cs) limit (omega (arith, large, e, value_more cs i h, value_grows cs (i + 1))))
-    ] in
-    sym (cond-false _ (Some (digits_value cs)) None (and_right (ltb 0 (length cs)) _ refused))
+-- a digit that is none refuses the whole
+pub no_digit : (limit : ℕ) (cs : List ℕ) (i : ℕ) → i < length cs → is_digit (get_or cs i 0) ≡ false → decimal_of limit cs ≡ None
+no_digit limit cs i h d =
+    cond-false _ (Some (digits_value cs)) None (and_right (ltb 0 (length cs)) _ (and_left (all_digits cs) (ltb (digits_value cs) limit) (one_bad cs i h d)))
+
+-- and so does one that makes the number too large
+pub too_large : (limit : ℕ) (cs : List ℕ) (i : ℕ) → i < length cs → limit ≤ digits_value (take i cs) * 10 + (get_or cs i 0 - 48) → decimal_of limit cs ≡ None
+too_large limit cs i h large =
+    let whole = le-ltb (digits_value cs) limit (omega (arith, large, value_more cs i h, value_grows cs (i + 1))) in
+    cond-false _ (Some (digits_value cs)) None (and_right (ltb 0 (length cs)) _ (and_right (all_digits cs) _ whole))

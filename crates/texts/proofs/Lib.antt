@@ -1,5 +1,4 @@
 -- The lemmas of this crate.
-mod Answered
 mod Commanded
 mod Cuts
 mod Decimals

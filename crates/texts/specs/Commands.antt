@@ -12,11 +12,11 @@ use Rattle.texts.specs.declared.command.Command.TheVariants.{Store, Levels, Root
 abbrev pub DecimalBefore : (cs word : List ℕ) → ℕ → List ℕ → Type 0
 DecimalBefore cs word v rest = (d : List ℕ) × (cs ≡ d ++ (word ++ rest)) × (decimal_of (2 ^ 64) d ≡ Some v)
 
--- three decimals, with the words between them
+-- three decimals, with the words between them; the seed is any number
 abbrev pub LevelsSpelled : List ℕ → Tree → Type 0
 LevelsSpelled cs t =
     (x : List ℕ) × (y : List ℕ) × DecimalBefore cs (codes " bits ") t.signer.levels x × DecimalBefore x (codes " seed ") t.bits y
-    × (decimal_of (2 ^ 64) y ≡ Some (value_of t.signer.seed))
+    × (decimal_of (2 ^ 256) y ≡ Some (value_of t.signer.seed))
 
 -- decimals below 2^32, each after one space
 abbrev pub StoreSpelled : List ℕ → List ℕ → Type 0

@@ -42,17 +42,14 @@ fn decimal_before<'a>(text: &'a [u8], word: &[u8]) -> Option<(u64, &'a [u8])>
     Some((read_decimal(digits)?, after(rest, word)?))
 }
 
-// What follows the word `levels` and a space: the tree that the next lines are asked with. So far a seed is below 2^64.
+// What follows the word `levels` and a space: the tree that the next lines are asked with.
 fn read_levels(text: &[u8]) -> Option<Tree>
     ensures { Reads (LevelsSpelled text.now) result }
 {
     let (levels, text) = decimal_before(text, b" bits ")?;
     let (bits, text) = decimal_before(text, b" seed ")?;
     let seed = read_decimal(text)?;
-    let signer = Signer {
-        levels,
-        seed: Number::from(seed),
-    };
+    let signer = Signer { levels, seed };
     Some(Tree { signer, bits })
 }
 

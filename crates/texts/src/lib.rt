@@ -14,7 +14,7 @@ pub mod words;
 
 pub use bits::{digest, text_bits};
 pub use command::{Command, read_command};
-pub use decimal::read_decimal;
+pub use decimal::{FromDecimal, read_decimal};
 pub use hex::read_hex;
 pub use numbers::read_numbers;
 pub use reply::{look_text, root_text, sign_text};

@@ -26,7 +26,7 @@ impl FromWord for u32 {
     ghost spells = { λ w v. decimal_of (2 ^ 32) w ≡ Some v };
 
     fn from_word(word: &[u8]) -> Option<u32> {
-        u32::try_from(read_decimal(word)?).ok()
+        read_decimal(word)
     }
 }
 

@@ -25,4 +25,4 @@ returns-in_err-seed c =
     let same = before_same c.args.text.now (codes " bits ") c.in_ok-levels.levels v.signer.levels rest s.0 refl c.in_ok-levels.ensures s.2 in
     let there = subst (λ (t : List ℕ). DecimalBefore t (codes " seed ") v.bits s.1) (sym same) s.3 in
     let same_2 = before_same rest (codes " seed ") c.in_ok-bits.bits v.bits last s.1 refl c.in_ok-bits.ensures there in
-    not_both (2 ^ 64) last s.1 (value_of v.signer.seed) c.in_err-seed.ensures same_2 s.4)
+    not_both (2 ^ 256) last s.1 (value_of v.signer.seed) c.in_err-seed.ensures same_2 s.4)
