@@ -20,7 +20,7 @@ def program(data):
 def store(r):
     numbers = []
     for _ in (0, 1):
-        count = r.choice([0, 0, 1, 1, 2, 3, 7, 8, 9, 15, 16, 17, 4294967295])
+        count = r.choice([0, 0, 0, 1, 1, 2, 3, 7, 8, 9, 15, 16, 17, 4294967295])
         numbers += [count, model.check(count) if r.random() < 0.8 else r.choice([3, 10, 17])]
     if r.random() < 0.1:
         numbers = numbers[: r.randrange(4)] if r.random() < 0.5 else numbers + [3]
@@ -63,16 +63,16 @@ def session(r):
     """The lines of one session. What it looks at are signatures by the model, for the settings at that place."""
     lines = [store(r), levels(r)]
     for _ in range(r.randrange(3, 9)):
-        kind = r.randrange(8)
-        if kind == 0:
+        kind = r.choice("store levels root line sign sign sign look look look look".split())
+        if kind == "store":
             lines.append(store(r))
-        elif kind == 1:
+        elif kind == "levels":
             lines.append(levels(r))
-        elif kind == 2:
+        elif kind == "root":
             lines.append("root")
-        elif kind == 3:
+        elif kind == "line":
             lines.append(r.choice(["", "sign", " root", "root ", "store  1", "levels 0 bits 4", "look", "store 4294967296 3 0 3", "sIgn x"]))
-        elif kind == 4:
+        elif kind == "sign":
             lines.append("sign " + r.choice(TEXTS))
         else:
             lines += look(r, lines)
