@@ -4,7 +4,7 @@ use Rattle.tree.specs.declared.own.Tree.{Tree}
 use Rattle.std.specs.List.{flat_map}
 use Rattle.hash.specs.Value.{value_of}
 use Rattle.hash.specs.Hex.{hex}
-use Rattle.texts.specs.Spelling.{decimal_of}
+use Rattle.reading.specs.Spelling.{decimal_of}
 use Rattle.texts.specs.declared.command.Command.{Command}
 use Rattle.texts.specs.declared.command.Command.TheVariants.{Store, Levels, Root, Sign, Look}
 

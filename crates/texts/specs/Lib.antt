@@ -1,9 +1,6 @@
 -- The definitions that the contracts of this crate cite.
 pub mod Bits
 pub mod Commands
-pub mod Reading
 pub mod Replies
 pub mod Sessions
 pub mod SignatureLines
-pub mod Spaced
-pub mod Spelling

@@ -5,7 +5,7 @@ use Rattle.keys.specs.declared.refusal.Refusal.{Refusal}
 use Rattle.keys.specs.declared.refusal.Refusal.TheVariants.{Line}
 use Rattle.signatures.specs.Signatures.{Signature}
 use Rattle.signatures.specs.Lines.{numbers_line}
-use Rattle.texts.specs.Spelling.{decimal_of}
+use Rattle.reading.specs.Spelling.{decimal_of}
 use Rattle.texts.specs.declared.signature.ReadSignature.{ReadSignature}
 use Rattle.texts.specs.declared.signature.SignatureLines.{SignatureLines}
 

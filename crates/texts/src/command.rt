@@ -3,15 +3,12 @@ ghost use Rattle.std.specs.Prelude.{◌≡◌, ℕ, List, ◌++◌, IfOk, codes,
 ghost use Rattle.hash.specs.declared.number.Number.{Number};
 ghost use Rattle.tree.specs.declared.own.Tree.{Tree};
 ghost use Rattle.texts.specs.Commands.{DecimalBefore, LevelsSpelled, Spelled, takes_lines};
-ghost use Rattle.texts.specs.Reading.{Reads};
+ghost use Rattle.reading.specs.Reading.{Reads};
 ghost use Rattle.hash.specs.Hex.{hex};
 
-use crate::decimal::read_decimal;
-use crate::hex::read_hex;
-use crate::spaced::read_words;
-use crate::words::{after, word_end};
 use hash::Number;
 use keys::Signer;
+use reading::{after, read_decimal, read_hex, read_words, word_end};
 use std::alloc::{AllocError, Global};
 use tree::Tree;
 

@@ -3,15 +3,13 @@ ghost use Rattle.std.specs.Prelude.{◌≡◌, [], Ok, Err, IfOk, IsErrOf};
 ghost use Rattle.keys.specs.declared.refusal.Refusal.{Refusal};
 ghost use Rattle.keys.specs.declared.refusal.Refusal.TheVariants.{Line};
 ghost use Rattle.signatures.specs.Views.{viewed};
-ghost use Rattle.texts.specs.Reading.{Reads};
+ghost use Rattle.reading.specs.Reading.{Reads};
 ghost use Rattle.texts.specs.SignatureLines.{line_after, signature_of, KeySpelled, SignatureRead};
 ghost use Rattle.texts.specs.declared.signature.ReadError.TheVariants.{Refused, Memory};
 
-use crate::decimal::read_decimal;
-use crate::numbers::read_numbers;
-use crate::words::after;
 use hash::Number;
 use keys::Refusal;
+use reading::{after, read_decimal, read_numbers};
 use signatures::SignatureView;
 use std::alloc::{AllocError, Global};
 

@@ -2,7 +2,7 @@
 use Rattle.std.proofs.Common.{◌++◌, codes, refl, ◌∙◌}
 use Rattle.std.proofs.lemmas.Option.{MatchOption-at_none}
 use Rattle.hash.specs.Hex.{hex}
-use Rattle.texts.proofs.Cuts.{cut_word, hex_whole}
+use Rattle.reading.proofs.Cuts.{cut_word, hex_whole}
 use Rattle.texts.proofs.command.read_look.Goals as goal
 use Rattle.texts.proofs.command.read_look.Goals.{in_default-via-in-Some+in_default, in_default-via-in_default}
 

@@ -7,7 +7,7 @@ use Rattle.keys.specs.declared.refusal.Refusal.{Refusal}
 use Rattle.texts.specs.SignatureLines.{KeySpelled, Readable}
 use Rattle.texts.specs.declared.signature.ReadError.{ReadError}
 use Rattle.texts.specs.declared.signature.ReadError.TheVariants.{Refused}
-use Rattle.texts.proofs.Lines.{line_some, line_none}
+use Rattle.reading.proofs.Lines.{line_some, line_none}
 use Rattle.texts.proofs.signature.SignatureLines.read.Goals as goal
 
 -- the refusal that is handed on is the one that stands for a line which is none

@@ -1,0 +1,87 @@
+-- Words: where one ends, that a text is cut into them in one way only, and that numbers are written as words.
+use Rattle.std.proofs.Common.{◌≡◌, ℕ, zero, suc, ◌/◌, ◌%◌, ◌<◌, true, List, [], ◌∷◌, ◌++◌, length, get_or, take, drop, Some, sym, refl, ap, ◌∙◌, subst, arith}
+use Rattle.std.specs.List.{flat_map}
+use Rattle.std.specs.Str.Iter.{LacksByte}
+use Rattle.std.proofs.lemmas.List.{drop_at, get_or_append_left, length-append, take_at}
+use Rattle.std.proofs.lemmas.Option.{cond_some}
+use Rattle.std.proofs.lemmas.Bool.{and_parts, leb-true}
+use Rattle.std.proofs.lemmas.Bool.Decides.{nat_tests}
+use Rattle.reading.specs.Spaced.{Stops, FirstWord, SpacedWords}
+use Rattle.hash.specs.Hex.{hex_digit, hex}
+use Rattle.reading.specs.Spelling.{WordEnd, is_digit, all_digits, digits_value, decimal_of}
+
+-- no digit is a space
+pub digits_whole : (cs : List ℕ) → all_digits cs ≡ true → LacksByte 32 cs
+digits_whole [] e k h s = omega arith
+digits_whole (c ∷ cs) e zero h s = let low = leb-true 48 c (and_parts _ _ (and_parts (is_digit c) (all_digits cs) e).0).0 in omega (arith, low)
+digits_whole (c ∷ cs) e (suc k) h s = digits_whole cs (and_parts (is_digit c) (all_digits cs) e).1 k (omega arith) s
+
+pub decimal_whole : (limit : ℕ) (cs : List ℕ) (v : ℕ) → decimal_of limit cs ≡ Some v → LacksByte 32 cs
+decimal_whole limit cs v e = digits_whole cs (and_parts (all_digits cs) _ (and_parts _ _ (cond_some _ (digits_value cs) v e).0).1).0
+
+digit_no_space : (d : ℕ) → hex_digit d ≡ 32 → ⊥
+digit_no_space d = grind (arith, nat_tests)
+
+pub hex_whole : (bs : List ℕ) → LacksByte 32 (hex bs)
+hex_whole [] k h s = omega arith
+hex_whole (b ∷ bs) zero h s = digit_no_space (b / 16) s
+hex_whole (b ∷ bs) (suc zero) h s = digit_no_space (b % 16) s
+hex_whole (b ∷ bs) (suc (suc k)) h s = hex_whole bs k (omega arith) s
+
+-- what stands behind a word begins where the word ends
+after_word : (w rest : List ℕ) → Stops rest → length w < length (w ++ rest) → get_or (w ++ rest) (length w) 0 ≡ 32
+after_word [] rest stops h = stops h
+after_word (c ∷ w) rest stops h = after_word w rest stops (omega arith)
+
+-- the first word, of a text that is a word and what may stand behind one, ends where it does
+whole_end : (w rest : List ℕ) → LacksByte 32 w → Stops rest → WordEnd (w ++ rest) (length w)
+whole_end w rest whole stops =
+    record {
+      within = omega (arith, length-append w rest);
+      before = λ k h e. whole k h (sym (get_or_append_left w rest 0 k h) ∙ e);
+      found = after_word w rest stops;
+    }
+
+-- and nowhere else
+one_end : (text : List ℕ) (r s : ℕ) → WordEnd text r → WordEnd text s → r ≡ s
+one_end text r s a b =
+    let shorter : r < s → ⊥ = λ h. b.before r h (a.found (omega (arith, b.within))) in
+    let longer : s < r → ⊥ = λ h. a.before s h (b.found (omega (arith, a.within))) in omega arith
+
+-- a text cut where its first word ends
+pub cut_word : (text w rest : List ℕ) (r : ℕ) → WordEnd text r → LacksByte 32 w → Stops rest → text ≡ w ++ rest → (take r text ≡ w) × (drop r text ≡ rest)
+cut_word text w rest r at whole stops e =
+    let end = one_end (w ++ rest) (length w) r (whole_end w rest whole stops) (subst (λ (t : List ℕ). WordEnd t r) e at) in
+    (ap (take r) e ∙ take_at w rest r end, ap (drop r) e ∙ drop_at w rest r end)
+
+-- a text begins with one word only
+pub same_word : (v w p q : List ℕ) → LacksByte 32 v → LacksByte 32 w → Stops p → Stops q → v ++ p ≡ w ++ q → (v ≡ w) × (p ≡ q)
+same_word v w p q a b s t e =
+    let cut = cut_word (v ++ p) w q (length v) (whole_end v p a s) b t e in (sym (take_at v p (length v) refl) ∙ cut.0, sym (drop_at v p (length v) refl) ∙ cut.1)
+
+-- words, each after one space: the first one, and what is left behind it
+words_stop : (ws : List (List ℕ)) → Stops (flat_map (λ w. 32 ∷ w) ws)
+words_stop [] = λ h. absurd (omega arith)
+words_stop (w ∷ ws) = λ h. refl
+
+module _ {V : Type 0} (spells : List ℕ → V → Type 0) where
+  -- a text that is words and not empty begins with one
+  abbrev pub Begun : List ℕ → Type 0
+  Begun left = (w : List ℕ) × (v : V) × (rest : List ℕ) × (us : List V) × FirstWord spells left w v rest × SpacedWords spells rest us
+
+  pub begun : (left : List ℕ) (vs : List V) → 0 < length left → SpacedWords spells left vs → Begun left
+  begun left [] h ([], e, m) = absurd (omega (arith, ap length e))
+  begun left (v ∷ vs) h ([], e, m) = absurd m
+  begun left [] h (w ∷ ws, e, m) = absurd m
+  begun left (v ∷ vs) h (w ∷ ws, e, m) =
+      (w, v, flat_map (λ x. 32 ∷ x) ws, vs, record { text = e; whole = m.0.0; stops = words_stop ws; spelled = m.0.1 }, (ws, refl, m.1))
+
+  pub rest_words : (left w rest : List ℕ) (v : V) (vs : List V) → FirstWord spells left w v rest → SpacedWords spells left vs → (us : List V) × SpacedWords spells rest us
+  rest_words left w rest v vs f s =
+      let k = begun left vs (omega (arith, ap length f.text)) s in
+      let both : w ++ rest ≡ k.0 ++ k.2 = ap (drop 1) (sym f.text ∙ k.4.text) in
+      let same = same_word w k.0 rest k.2 f.whole k.4.whole f.stops k.4.stops both in
+      (k.3, subst (λ (t : List ℕ). SpacedWords spells t k.3) (sym same.1) k.5)
+
+  pub one_more : (left w rest : List ℕ) (v : V) (vs : List V) → FirstWord spells left w v rest → SpacedWords spells rest vs → SpacedWords spells left (v ∷ vs)
+  one_more left w rest v vs f s = (w ∷ s.0, f.text ∙ ap (λ (r : List ℕ). 32 ∷ (w ++ r)) s.1, ((f.whole, f.spelled), s.2))

@@ -1,0 +1,5 @@
+-- The lemmas of this crate.
+pub mod Cuts
+mod Decimals
+mod Hexes
+pub mod Lines

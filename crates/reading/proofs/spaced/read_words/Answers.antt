@@ -1,0 +1,34 @@
+-- One value more, and nothing left.
+use Rattle.std.proofs.Common.{List, [], ◌∷◌, ◌++◌, vec_items, sym, ap, ◌∙◌, subst, append_assoc, arith}
+use Rattle.std.proofs.lemmas.List.{append-nil, nil_from_length}
+use Rattle.std.proofs.lemmas.Bool.{eqb-false, eqb-true}
+use Rattle.reading.specs.Spaced.{SpacedWords}
+use Rattle.reading.proofs.Cuts.{begun, rest_words, one_more}
+use Rattle.reading.proofs.spaced.read_words.Goals as goal
+
+pub returns-in_default : goal.returns-in_default
+returns-in_default g c vs s =
+    let k = c.loop-left.invariant.1 vs s in
+    let none = eqb-false _ _ (sym c.is_empty.ensures ∙ c.loop-left-test.true) in
+    let f = begun g.T.FromWord.spells c.loop-left.left.now k.0 (omega arith) k.1 in c.in_default.ensures f.0 f.1 f.2 f.4
+
+pub loop-left-preserved : goal.loop-left-preserved
+loop-left-preserved g c =
+    let spells = g.T.FromWord.spells in
+    let left = c.loop-left.left.now in
+    let rest = c.in-Some.rest.now in
+    let before = vec_items c.loop-left.values in
+    let value = c.in-Some.value in
+    let word = c.in-Some.ensures in
+    let pushed = c.in_ok-push.ensures.items in (
+      λ vs s.
+          let whole = c.loop-left.invariant.0 (value ∷ vs) (one_more spells left word.0 rest value vs word.1 s) in
+          subst (SpacedWords spells c.args.text.now) (sym (ap (λ (xs : List g.row.T.Denot). xs ++ vs) pushed ∙ append_assoc before (value ∷ []) vs)) whole,
+      λ vs s.
+          let k = c.loop-left.invariant.1 vs s in rest_words spells left word.0 rest value k.0 word.1 k.1,
+    )
+
+pub returns : goal.returns
+returns g c =
+    let none = nil_from_length c.loop-left.left.now (eqb-true _ _ (sym c.is_empty.ensures ∙ c.loop-left-test.false)) in
+    subst (SpacedWords g.T.FromWord.spells c.args.text.now) (append-nil (vec_items c.loop-left.values)) (c.loop-left.invariant.0 [] ([], none, tt))
