@@ -26,7 +26,7 @@ before_same text word u v p q h b d =
 pub not_both : (limit : ℕ) (cs ds : List ℕ) (v : ℕ) → decimal_of limit cs ≡ None → cs ≡ ds → decimal_of limit ds ≡ Some v → ⊥
 not_both limit cs ds v n e f = cc
 
--- the counts of a store are such words, since a decimal holds no space
+-- the counts of a store are words, each after one space, since a decimal holds none
 stored_from : (ws : List (List ℕ)) (vs : List ℕ) → AllZip (λ w v. LacksByte 32 w × (decimal_of (2 ^ 32) w ≡ Some v)) ws vs → map (decimal_of (2 ^ 32)) ws ≡ map (λ v. Some v) vs
 stored_from [] [] m = refl
 stored_from [] (v ∷ vs) m = absurd m
