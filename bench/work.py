@@ -3,7 +3,7 @@
 
 Run by hand, not by the gate, after `rt run` in crates/kachumpe; needs valgrind:  python3 bench/work.py [levels ..]
 
-Calls are counted and nothing is timed, so every run gives the same numbers. The maker of paths either makes a leaf or joins two nodes, so its calls that do not join are the leaves. That is checked by how many numbers are hashed in all.
+Calls are counted and nothing is timed, so every run gives the same counts. The maker of paths either makes a leaf or joins two nodes, so its calls that do not join are the leaves. That is checked by how many numbers are hashed in all.
 """
 import re
 import subprocess
