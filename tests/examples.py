@@ -2,7 +2,7 @@
 """Writes the lines of the program's run in the gate, and what the program must answer.
 
 Run by hand, not by the gate, where an example is added:  python3 tests/examples.py
-It writes crates/kachumpe/stdin, and crates/kachumpe/stdout by tests/model.py. Of each example it says itself what is answered, and fails where the model says something else.
+It writes crates/kachumpe/stdin, and crates/kachumpe/stdout by tests/model.py. Of each example it says which answer it gets, and fails where the model gives another; the numbers in roots and signatures are the model's own.
 """
 import sys
 
