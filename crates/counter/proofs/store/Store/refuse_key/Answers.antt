@@ -3,8 +3,8 @@ use Rattle.std.proofs.Common.{◌<◌, ◌^◌, arith}
 use Rattle.std.proofs.lemmas.Bool.{le-leb}
 use Rattle.tree.specs.Tree.{power}
 use Rattle.tree.proofs.Powers.{above, far}
-use Rattle.signer.specs.Store.{next}
-use Rattle.signer.proofs.store.Store.refuse_key.Goals as goal
+use Rattle.counter.specs.Store.{next}
+use Rattle.counter.proofs.store.Store.refuse_key.Goals as goal
 
 pub returns-in_default-2 : goal.returns-in_default-2
 returns-in_default-2 c =

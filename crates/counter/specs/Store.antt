@@ -1,6 +1,7 @@
 -- The store: two slots of two numbers, a count and a check of it. Each number is written at once, and power may fail before a write. Assumes nothing: these are definitions.
-use Rattle.std.specs.Prelude.{ℕ, zero, suc, ◌+◌, ◌-◌, ◌*◌, ◌%◌, Bool, if◌then◌else◌, ◌&&◌, ◌||◌, List, length, ◌==◌, nat_le, nat_lt, slice_index, slice_set}
+use Rattle.std.specs.Prelude.{ℕ, zero, suc, ◌+◌, ◌-◌, ◌*◌, ◌%◌, Bool, if◌then◌else◌, ◌&&◌, ◌||◌, List, length, ◌==◌, nat_le, nat_lt, slice_index, slice_set, take, drop, [], ◌∷◌}
 use Rattle.tree.specs.Tree.{power}
+use Rattle.counter.specs.declared.write.Write.{Write}
 
 -- the check of a count
 abbrev pub check : ℕ → ℕ
@@ -22,6 +23,13 @@ written m = if slot_ok m 0 then (if slot_ok m 1 then (if nat_le (count_in m 0) (
 abbrev pub next : List ℕ → ℕ
 next m = count_in m (1 - written m)
 
+-- the writes that reserve it, in their order: one more in the slot that is written next, first as the count, then the check
+abbrev pub reserving : List ℕ → List Write
+reserving m =
+    record { place = 2 * written m; value = next m + 1 }
+    ∷ record { place = 2 * written m + 1; value = check (next m + 1) }
+    ∷ []
+
 -- the store when the next key was reserved, with power for so many writes: one more in the slot that is written next, first as the count, then the check
 abbrev pub reserved : ℕ → List ℕ → List ℕ
 reserved zero m = m
@@ -36,6 +44,14 @@ sound m = length m == 4 && (slot_ok m 0 || slot_ok m 1)
 abbrev pub step : (levels : ℕ) → List ℕ → ℕ → List ℕ
 step l m n = if nat_lt (next m) (power l) then reserved n m else m
 
+-- the writes that were made for it: a front part of those that reserve the key, as far as power lasts
+abbrev pub made : (levels : ℕ) → List ℕ → ℕ → List Write
+made l m n = if nat_lt (next m) (power l) then take n (reserving m) else []
+
 -- whether the key is given: there is one, and both numbers are written
 abbrev pub gives : (levels : ℕ) → List ℕ → ℕ → Bool
 gives l m n = nat_lt (next m) (power l) && nat_le 2 n
+
+-- the slot that counts, the one that is not written next, as a part of the store: two numbers, or none where the store is not sound
+abbrev pub counting : List ℕ → List ℕ
+counting m = if sound m then take 2 (drop (2 * (1 - written m)) m) else []

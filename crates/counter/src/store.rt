@@ -1,9 +1,12 @@
 // The store: two slots of a count and its check, one of which is written while the other counts.
-ghost use Rattle.std.specs.Prelude.{◌≡◌, ◌+◌, ◌<◌, true, ⊤};
+ghost use Rattle.std.specs.Prelude.{◌≡◌, ◌-◌, ◌<◌, true, ⊤, is_ok};
 ghost use Rattle.keys.specs.Refusals.{Unless};
-ghost use Rattle.signer.specs.Answers.{store_refusal, key_refusal};
-ghost use Rattle.signer.specs.Store.{check, slot_ok, written, next, sound, reserved};
+ghost use Rattle.counter.specs.Answers.{store_refusal, key_refusal};
+ghost use Rattle.counter.specs.Reserving.{ForPower, Written};
+ghost use Rattle.counter.specs.Store.{check, slot_ok, written, next, sound};
 
+use crate::cells::{Cells, NotWritten};
+use crate::write::Write;
 use keys::Refusal;
 use tree::key_count;
 
@@ -17,7 +20,7 @@ fn check_of(count: u32) -> u32
     ((7 * u64::from(count) + 3) % MODULUS) as u32
 }
 
-// Whether a slot's check fits. Slots are told by number and lie flat, as the lent store has them.
+// Whether a slot's check fits. Slots are told by number and lie flat, as the cells have them.
 fn slot_is_right(cells: &[u32; 4], slot: usize) -> bool
     requires { slot < 2 }
     ensures { result ≡ slot_ok cells.now slot }
@@ -66,11 +69,19 @@ impl Store {
         }
     }
 
-    // The next key: the count in the slot that is not written next.
+    // The slot that counts: the one that is not written next.
+    pub(crate) fn slot_that_counts(&self) -> usize
+        ensures is { result ≡ 1 - written self.now.cells }
+        ensures small { result < 2 }
+    {
+        1 - self.slot_to_write()
+    }
+
+    // The next key: the count in the slot that counts.
     pub(crate) fn next_key(&self) -> u32
         ensures { result ≡ next self.now.cells }
     {
-        self.cells[2 * (1 - self.slot_to_write())]
+        self.cells[2 * self.slot_that_counts()]
     }
 
     // A next key above the number of keys is refused; the one that equals it is not, since all keys were given then.
@@ -84,21 +95,22 @@ impl Store {
         }
     }
 
-    // Reserves the next key in the lent store that this was read from: writes one more than it in the slot that is written next, first the count, then its check. What is given is read back from there.
-    pub(crate) fn reserve(&self, lent: &mut [u32]) -> Store
-        requires read { lent.old ≡ self.now.cells }
+    // Reserves the next key in the cells that this was read from: writes one more than it in the slot that is written next, first the count, then its check.
+    pub(crate) fn reserve<C: Cells>(&self, cells: &mut C) -> Result<(), NotWritten>
+        requires read { C.held cells.old ≡ self.now.cells }
         requires small { next self.now.cells < 4294967295 }
-        ensures lent { lent.new ≡ reserved 2 lent.old }
-        ensures read_back { result.cells ≡ lent.new }
-        ensures counted { next result.cells ≡ next self.now.cells + 1 }
+        ensures written { ForPower (C.lasts cells.old) (Written (C.held cells.old) (is_ok result) (C.writes cells.old) (C.writes cells.new) (C.held cells.new)) }
+        ensures loan { C.loan cells.new ≡ C.loan cells.old }
     {
         let count = self.next_key() + 1;
-        let at = 2 * self.slot_to_write();
-        lent[at] = count;
-        lent[at + 1] = check_of(count);
-        // By hand, since `try_from` has an error that cannot happen here.
-        Store {
-            cells: [lent[0], lent[1], lent[2], lent[3]],
-        }
+        let place = 2 * self.slot_to_write();
+        cells.write(Write {
+            place,
+            value: count,
+        })?;
+        cells.write(Write {
+            place: place + 1,
+            value: check_of(count),
+        })
     }
 }

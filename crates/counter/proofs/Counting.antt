@@ -1,7 +1,7 @@
 -- The store while a key is reserved: it stays sound, and the next key rises by one where both numbers are written.
 use Rattle.std.proofs.Common.{◌≡◌, ℕ, zero, suc, ◌+◌, ◌*◌, ◌<◌, ◌≤◌, true, ◌⊎◌, List, [], ◌∷◌, set, sym, refl, subst₂, inl, inr, arith}
 use Rattle.std.proofs.lemmas.Bool.Decides.{nat_tests}
-use Rattle.signer.specs.Store.{check, written, next, reserved, sound}
+use Rattle.counter.specs.Store.{check, written, next, reserved, sound}
 
 -- a store of four numbers whose first slot is written next, and one whose second is
 first_written : (a p b q : ℕ) → q ≡ check b → (p ≡ check a → a ≤ b) →

@@ -1,0 +1,5 @@
+-- The lemmas of this crate.
+pub mod Counting
+pub mod Powered
+mod Walks
+pub mod Writes

@@ -1,0 +1,12 @@
+-- Writes to a store's cells. Assumes nothing: these are definitions.
+use Rattle.std.specs.Prelude.{ℕ, Bool, if◌then◌else◌, List, [], ◌∷◌, slice_set}
+use Rattle.counter.specs.declared.write.Write.{Write}
+
+-- what numbers are left when writes are made to them, in order
+abbrev pub left_by : List Write → List ℕ → List ℕ
+left_by [] m = m
+left_by (w ∷ ws) m = left_by ws (slice_set m w.place w.value)
+
+-- a write that was made, or none
+abbrev pub only_if : Bool → Write → List Write
+only_if t w = if t then w ∷ [] else []

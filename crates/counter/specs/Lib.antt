@@ -1,0 +1,5 @@
+-- The definitions that the contracts of this crate cite.
+pub mod Answers
+pub mod Cells
+pub mod Reserving
+pub mod Store

@@ -1,0 +1,24 @@
+-- What reserving does to cells, whichever they are: with power for some number of writes, the answer, the writes that were added, in their order, and what the cells hold. Assumes nothing: these are definitions.
+use Rattle.std.specs.Prelude.{◌≡◌, ℕ, Bool, List, [], ◌++◌, take, Some, None, Option, nat_le}
+use Rattle.keys.specs.declared.refusal.Refusal.{Refusal}
+use Rattle.counter.specs.Answers.{unrefused, unless_refused}
+use Rattle.counter.specs.Store.{reserving, reserved, step, made}
+use Rattle.counter.specs.declared.answer.Done.{Done}
+use Rattle.counter.specs.declared.write.Write.{Write}
+
+-- P holds with power for the number of writes that is known, or else for some number
+abbrev pub ForPower : Option ℕ → (ℕ → Type 0) → Type 0
+ForPower (Some w) P = P w
+ForPower None P = (w : ℕ) × P w
+
+-- both numbers of a key's slot were written, or a front part of them
+pub record Written (m : List ℕ) (ok : Bool) (before after : List Write) (m₁ : List ℕ) (w : ℕ) : Type 0 where
+  pub both : ok ≡ nat_le 2 w
+  pub writes : after ≡ before ++ take w (reserving m)
+  pub held : m₁ ≡ reserved w m
+
+-- a key of a tree of l levels was asked for, where o is the first refusal that applies
+pub record Asked (o : Option Refusal) (l : ℕ) (m : List ℕ) (d : Done) (before after : List Write) (m₁ : List ℕ) (w : ℕ) : Type 0 where
+  pub answer : d ≡ unrefused l m w o
+  pub writes : after ≡ before ++ unless_refused o [] (made l m w)
+  pub held : m₁ ≡ unless_refused o m (step l m w)

@@ -1,0 +1,8 @@
+// A write of one number.
+
+// What is written, and in which cell.
+#[derive(Clone, Copy, Debug, PartialEq, Eq)]
+pub struct Write {
+    pub place: usize,
+    pub value: u32,
+}
