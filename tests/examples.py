@@ -28,6 +28,16 @@ class Run:
         self.ask("look %064x %s" % (root, text), answer)
         self.lines += lines
 
+    def holds(self, numbers, slot):
+        """The store has these numbers, and of its slots this one counts."""
+        self.ask("state", "store" + numbers)
+        self.ask("slot", "slot" + slot)
+
+    def refuse(self, *lines):
+        """Lines that cannot be read."""
+        for line in lines:
+            self.ask(line, "5 %d" % len(self.lines))
+
 
 class Tree:
     """A signer's tree, and its signatures of one text."""
@@ -45,6 +55,11 @@ class Tree:
 
     def printed_root(self):
         return "%064x" % self.root
+
+
+# A tree of eight keys, and the signature by each.
+EIGHT = Tree(3, 1)
+GIVEN = ["\n".join(EIGHT.lines(key)) for key in range(8)]
 
 
 def store(key):
@@ -112,8 +127,7 @@ def one_key(run):
     run.say(whole.line, "store 0 3 0 4")
     run.ask("sign ", "\n".join(whole.lines(0, "")))
     run.ask("sign ", "all given")
-    for line in ("root ", "levels 0 bits 4", "store 4294967296 3 0 3", "levels 0 bits 4 seed +17"):
-        run.ask(line, "5 %d" % len(run.lines))
+    run.refuse("root ", "levels 0 bits 4", "store 4294967296 3 0 3", "levels 0 bits 4 seed +17")
     run.say(tree.line)
     run.look(tree.root, DEED, ["key x"] + right[1:], "5 %d" % (len(run.lines) + 1))
     run.look(tree.root, DEED, right[:1] + [right[1].upper()] + right[2:], "5 %d" % (len(run.lines) + 2))
@@ -174,7 +188,7 @@ def seeds(run):
         run.say(tree.line)
         run.ask("root", tree.printed_root())
     for spelled in ("%d" % 2**256, "1" + "0" * 78, "", "-1"):
-        run.ask("levels 0 bits 1 seed " + spelled, "5 %d" % len(run.lines))
+        run.refuse("levels 0 bits 1 seed " + spelled)
     run.ask("root", tree.printed_root())
     run.say("levels 0 bits 1 seed %0200d" % 17)
     run.ask("root", Tree(0, 1).printed_root())
@@ -206,6 +220,170 @@ def whatever_levels_and_bits(run):
         run.look(tree.root, DEED, tree.lines(0), "accepted")
 
 
+def power_fails(run):
+    """What a request leaves of the store: where power lasts, and where it fails before one of the writes."""
+    run.say("store 0 3 0 3", EIGHT.line)
+    run.holds(" 0 3 0 3", " 0 3")
+    run.ask("sign " + DEED, GIVEN[0])
+    run.holds(" 1 10 0 3", " 1 10")
+    run.say("store 1 10 0 3")
+    run.ask("sign " + DEED, GIVEN[1])
+    run.holds(" 1 10 2 17", " 2 17")
+    run.say("store 4 31 5 38", "power 0")
+    run.holds(" 4 31 5 38", " 5 38")
+    run.ask("sign " + DEED, "cut")
+    run.holds(" 4 31 5 38", " 5 38")
+    for _ in (0, 1):
+        run.say("power 1")
+        run.ask("sign " + DEED, "cut")
+        run.holds(" 6 31 5 38", " 5 38")
+    run.ask("sign " + DEED, GIVEN[5])
+    run.holds(" 6 45 5 38", " 6 45")
+    run.say("power 1")
+    run.ask("sign " + DEED, "cut")
+    run.holds(" 6 45 7 38", " 6 45")
+    run.say("power 2")
+    run.ask("sign " + DEED, GIVEN[6])
+    run.holds(" 6 45 7 52", " 7 52")
+
+
+def count_alone(run):
+    """The check for the count is there before it, so that the slot is right with the count alone. The key that was reserved is given to nobody."""
+    run.say("store 1 17 1 10", EIGHT.line, "power 1")
+    run.holds(" 1 17 1 10", " 1 10")
+    run.ask("sign " + DEED, "cut")
+    run.holds(" 2 17 1 10", " 2 17")
+    run.ask("sign " + DEED, GIVEN[2])
+    run.holds(" 2 17 3 24", " 3 24")
+
+
+def nothing_written(run):
+    """What is refused, and what is asked where all keys were given, writes nothing, whatever the power."""
+    for levels, bits, numbers, slot, answer in (
+        (2, 1, " 4 31 4 31", " 4 31", "all given"),
+        (2, 1, " 5 31 4 31", " 4 31", "all given"),
+        (21, 1, " 0 3 0 3", " 0 3", "1 21"),
+        (3, 1, "", "", "2 0"),
+        (3, 1, " 6 31 5", "", "2 3"),
+        (3, 1, " 6 45 5 38 0", "", "2 5"),
+        (3, 1, " 6 31 5 39", "", "2 0"),
+        (2, 1, " 6 31 5 38", " 5 38", "3 5"),
+        (3, 1, " 4294967295 31 4 31", " 4294967295 31", "3 4294967295"),
+        (3, 0, " 6 31 5 38", " 5 38", "4 0"),
+        (3, 257, " 8 59 0 3", " 8 59", "4 257"),
+    ):
+        run.say("store" + numbers, "levels %d bits %d seed 17" % (levels, bits))
+        run.holds(numbers, slot)
+        for power in ([], ["power 0"], ["power 1"]):
+            run.say(*power)
+            run.ask("sign " + DEED, answer)
+            run.holds(numbers, slot)
+
+
+def power_for_one_request(run):
+    """Power fails in one request alone, whatever that is answered."""
+    run.say("store 0 3 0 3", EIGHT.line, "power 0")
+    run.ask("sign " + DEED, "cut")
+    run.ask("sign " + DEED, GIVEN[0])
+    for levels, bits, numbers, answer in (
+        (21, 1, " 0 3 0 3", "1 21"),
+        (3, 1, " 0 3 0", "2 3"),
+        (3, 1, " 9 66 0 3", "3 9"),
+        (3, 0, " 0 3 0 3", "4 0"),
+        (3, 1, " 8 59 0 3", "all given"),
+    ):
+        run.say("store" + numbers, "levels %d bits %d seed 17" % (levels, bits), "power 0")
+        run.ask("sign " + DEED, answer)
+        run.say("store 0 3 0 3", EIGHT.line)
+        run.ask("sign " + DEED, GIVEN[0])
+    run.say("power 2")
+    run.ask("sign " + DEED, GIVEN[1])
+    run.ask("sign " + DEED, GIVEN[2])
+
+
+def power_until_a_request(run):
+    """No other line uses power up, and of several lines of power the last holds."""
+    run.say("power 0", "store 3 24 2 17", EIGHT.line)
+    run.ask("root", EIGHT.printed_root())
+    run.holds(" 3 24 2 17", " 3 24")
+    run.look(EIGHT.root, DEED, EIGHT.lines(5), "accepted")
+    run.refuse("sign", " sign " + DEED)
+    run.ask("sign " + DEED, "cut")
+    run.ask("sign " + DEED, GIVEN[3])
+    for powers, answer in (
+        (("power 0", "power 2"), GIVEN[4]),
+        (("power 2", "power 0"), "cut"),
+        (("power 0", "power 1", "power 18446744073709551615"), GIVEN[5]),
+        (("power 0", "power 000000000000000000000000000000000000002"), GIVEN[6]),
+        (("power 2", "power 00"), "cut"),
+        (("power 0", "power 4294967296"), GIVEN[7]),
+    ):
+        run.say(*powers)
+        run.ask("sign " + DEED, answer)
+    run.holds(" 7 52 8 59", " 8 59")
+
+
+def lines_of_power(run):
+    """What is no line of power, of the state or of the slot is refused, and leaves power and the store as they are."""
+    run.say("store 5 38 6 45", EIGHT.line, "power 1")
+    for number in ("18446744073709551616", "", "-1", "1 ", " 1", "+1", "1 2", "x", "0x1"):
+        run.refuse("power " + number)
+    run.refuse("power", "power2", " power 2", "Power 2", "state ", " state", "state 1", "State", "slot ", " slot", "slot 1", "slots")
+    run.look(EIGHT.root, DEED, ["power 2"] + EIGHT.lines(5)[1:], "5 %d" % (len(run.lines) + 1))
+    run.ask("sign " + DEED, "cut")
+    run.holds(" 7 38 6 45", " 6 45")
+    run.look(EIGHT.root, DEED, ["key 5", "power 0", "state", "slot"], "5 %d" % (len(run.lines) + 2))
+    run.ask("sign " + DEED, GIVEN[6])
+    run.holds(" 7 52 6 45", " 7 52")
+
+
+def stores_shown(run):
+    """The state is shown whatever numbers a store has; a slot where it is sound."""
+    for numbers, slot in (
+        ("", ""),
+        (" 0", ""),
+        (" 0 3", ""),
+        (" 0 3 0", ""),
+        (" 0 3 0 3", " 0 3"),
+        (" 0 3 0 3 0", ""),
+        (" 0 3 0 3 0 3", ""),
+        (" 0 4 0 4", ""),
+        (" 3 0 3 0", ""),
+        (" 0 4 0 3", " 0 3"),
+        (" 0 3 0 4", " 0 3"),
+        (" 9 3 0 3", " 0 3"),
+        (" 1 10 2 17", " 2 17"),
+        (" 2 17 1 10", " 2 17"),
+        (" 2 17 2 17", " 2 17"),
+        (" 4294967295 31 4294967294 24", " 4294967295 31"),
+        (" 4294967295 4294967295 4294967295 31", " 4294967295 31"),
+        (" 613566755 4294967288 613566756 4", " 613566756 4"),
+        (" 4294967295 4294967295 4294967295 4294967295", ""),
+    ):
+        run.say("store" + numbers)
+        run.holds(numbers, slot)
+    run.say("store 007 0052 00 03")
+    run.holds(" 7 52 0 3", " 7 52")
+    run.refuse("store 1 10 0 3 ", "store 4294967296 3 0 3")
+    run.holds(" 7 52 0 3", " 7 52")
+
+
+def all_keys_while_power_fails(run):
+    """A tree is used up while power fails again and again: each key comes once, in order."""
+    run.say("store 0 3 0 3", EIGHT.line)
+    for key, powers in enumerate(([], [0], [1], [0, 1], [1, 0], [1, 1, 1], [0, 0, 1, 0], [1, 0, 1])):
+        for power in powers:
+            run.say("power %d" % power)
+            run.ask("sign " + DEED, "cut")
+        if key % 3 == 1:
+            run.say("power 2")
+        run.ask("sign " + DEED, GIVEN[key])
+    for power in ([], ["power 0"], ["power 1"], ["power 2"]):
+        run.say(*power)
+        run.ask("sign " + DEED, "all given")
+    run.holds(" 7 52 8 59", " 8 59")
+
+
 def cut_off(run):
     """The input ends in a signature."""
     tree = Tree(0, 4)
@@ -213,9 +391,28 @@ def cut_off(run):
     run.look(tree.root, DEED, tree.lines(0)[:2], "5 %d" % (len(run.lines) + 3))
 
 
+PARTS = (
+    one_key,
+    trees,
+    all_keys,
+    limits,
+    seeds,
+    whatever_levels_and_bits,
+    power_fails,
+    count_alone,
+    nothing_written,
+    power_for_one_request,
+    power_until_a_request,
+    lines_of_power,
+    stores_shown,
+    all_keys_while_power_fails,
+    cut_off,
+)
+
+
 def main():
     run = Run()
-    for part in (one_key, trees, all_keys, limits, seeds, whatever_levels_and_bits, cut_off):
+    for part in PARTS:
         part(run)
     data = "\n".join(run.lines).encode()
     answers = model.answers(data)

@@ -2,14 +2,19 @@
 """A second account of the program, written from the rules alone: reads the program's lines on standard input and prints what it should print.
 
 Run by hand, not by the gate:  python3 tests/model.py < crates/kachumpe/stdin | diff - crates/kachumpe/stdout
-It has the stand-in hash, and power that always lasts. Other tests import it.
+It has the stand-in hash. Other tests import it.
 """
 import functools
+import itertools
 import re
 import sys
 
 M = 4294967291
+STORE = re.compile(rb"store((?: [0-9]+)*)")
 SETTINGS = re.compile(rb"levels ([0-9]+) bits ([0-9]+) seed ([0-9]+)")
+POWER = re.compile(rb"power ([0-9]+)")
+LOOK = re.compile(rb"look ([0-9a-f]{64}) (.*)", re.S)
+LASTS = 2  # Power that lasts: a key takes two writes.
 
 
 def stand_in(row):
@@ -62,30 +67,43 @@ def signature_lines(key, parts, others, path):
 
 class Session:
     def __init__(self):
-        self.store, self.levels, self.bits, self.seed = [], 0, 0, 0
+        self.store, self.levels, self.bits, self.seed, self.power = [], 0, 0, 0, LASTS
 
-    def slots(self):
-        right = [self.store[2 * k + 1] == check(self.store[2 * k]) for k in (0, 1)]
-        if right == [True, True]:
-            written = 0 if self.store[0] <= self.store[2] else 1
-        else:
-            written = 1 if right[0] else 0
-        return right, written
+    def right(self):
+        return [self.store[2 * k + 1] == check(self.store[2 * k]) for k in (0, 1)]
+
+    def written(self):
+        """The place in the store of the slot that is written next."""
+        if self.right() == [True, True]:
+            return 0 if self.store[0] <= self.store[2] else 2
+        return 2 if self.right()[0] else 0
+
+    def counting(self):
+        """The slot that is not written next: the next key, and its check."""
+        return self.store[2:] if self.written() == 0 else self.store[:2]
 
     def refusal(self):
         if self.levels > 20:
             return "1 %d" % self.levels
+        if refused := self.store_refusal():
+            return refused
+        if self.counting()[0] > 2**self.levels:
+            return "3 %d" % self.counting()[0]
+        return self.bits_refusal()
+
+    def store_refusal(self):
         if len(self.store) != 4:
             return "2 %d" % len(self.store)
-        right, written = self.slots()
-        if not any(right):
-            return "2 0"
-        if self.store[2 * (1 - written)] > 2**self.levels:
-            return "3 %d" % self.store[2 * (1 - written)]
-        return self.bits_refusal()
+        return None if any(self.right()) else "2 0"
 
     def bits_refusal(self):
         return None if 1 <= self.bits <= 256 else "4 %d" % self.bits
+
+    def state(self):
+        return numbers_line("store", self.store)
+
+    def slot(self):
+        return numbers_line("slot", [] if self.store_refusal() else self.counting())
 
     def root(self):
         if self.levels > 20:
@@ -93,14 +111,17 @@ class Session:
         return self.bits_refusal() or "%064x" % node(self.seed, self.bits, self.levels, 0)
 
     def sign(self, text):
+        power, self.power = self.power, LASTS
         refused = self.refusal()
         if refused:
             return refused
-        _, written = self.slots()
-        key = self.store[2 * (1 - written)]
+        key, at = self.counting()[0], self.written()
         if key == 2**self.levels:
             return "all given"
-        self.store[2 * written : 2 * written + 2] = [key + 1, check(key + 1)]
+        writes = [key + 1, check(key + 1)][:power]
+        self.store[at : at + len(writes)] = writes
+        if power < LASTS:
+            return "cut"
         return "\n".join(signature_lines(*signature(self.seed, self.levels, key, text_bits(text, self.bits))))
 
     def look(self, root, text, key, parts, others, path):
@@ -111,6 +132,37 @@ class Session:
         for b, p, o in zip(bits, parts, others):
             row += [o, shown(p)] if b else [shown(p), o]
         return "accepted" if walk(key, stand_in(row), path) == root else "no"
+
+    def told(self, line):
+        """Whether this is a line that prints nothing. What it says holds from now on."""
+        if (numbers := decimals(STORE, line, itertools.repeat(2**32))) is not None:
+            self.store = numbers
+        elif (numbers := decimals(SETTINGS, line, (2**64, 2**64, 2**256))) is not None:
+            self.levels, self.bits, self.seed = numbers
+        elif (numbers := decimals(POWER, line, (2**64,))) is not None:
+            self.power = numbers[0]
+        else:
+            return False
+        return True
+
+    def asked(self, line):
+        """The answer to a line that has no others behind it; none if it cannot be read."""
+        if line.startswith(b"sign "):
+            return self.sign(line[5:])
+        alone = {b"root": self.root, b"state": self.state, b"slot": self.slot}
+        return alone[line]() if line in alone else None
+
+
+def numbers_line(word, numbers):
+    return word + "".join(" %d" % n for n in numbers)
+
+
+def decimals(form, line, limits):
+    """The numbers of a line of this form, each below its limit; none if it is no such line."""
+    if not form.fullmatch(line):
+        return None
+    numbers = [decimal(word, limit) for word, limit in zip(re.findall(rb"[0-9]+", line), limits)]
+    return None if None in numbers else numbers
 
 
 def decimal(word, limit):
@@ -141,27 +193,13 @@ def answers(data):
     while at < len(lines):
         line, number = lines[at], at
         at += 1
-        if m := re.fullmatch(rb"store((?: [0-9]+)*)", line):
-            words = [decimal(w, 2**32) for w in m.group(1).split()]
-            if None not in words:
-                session.store = words
-                continue
-        if m := SETTINGS.fullmatch(line):
-            words = [decimal(w, limit) for w, limit in zip(m.groups(), (2**64, 2**64, 2**256))]
-            if None not in words:
-                session.levels, session.bits, session.seed = words
-                continue
-        if line == b"root":
-            printed.append(session.root())
-        elif line.startswith(b"sign "):
-            printed.append(session.sign(line[5:]))
-        elif m := re.fullmatch(rb"look ([0-9a-f]{64}) (.*)", line, re.S):
+        if m := LOOK.fullmatch(line):
             four = [lines[k] if k < len(lines) else None for k in range(at, at + 4)]
             read, bad = read_signature(four)
             printed.append("5 %d" % (at + bad) if read is None else session.look(int(m.group(1), 16), m.group(2), *read))
             at += 4
-        else:
-            printed.append("5 %d" % number)
+        elif not session.told(line):
+            printed.append(session.asked(line) or "5 %d" % number)
     return printed
 
 
