@@ -11,6 +11,7 @@ import model
 
 HERE = sys.path[0]
 TEXTS = ["a deed", "another deed", "", " two  spaces ", "naïve", "x" * 300]
+UNREADABLE = ["", "sign", " root", "root ", "store  1", "levels 0 bits 4", "look", "store 4294967296 3 0 3", "sIgn x", "power", "power  2", "state ", "states", "slot 1", " slot"]
 
 
 def program(data):
@@ -18,6 +19,8 @@ def program(data):
 
 
 def store(r):
+    if r.random() < 0.2:
+        return cut_store(r)
     numbers = []
     for _ in (0, 1):
         count = r.choice([0, 0, 0, 1, 1, 2, 3, 7, 8, 9, 15, 16, 17, 4294967295])
@@ -25,6 +28,24 @@ def store(r):
     if r.random() < 0.1:
         numbers = numbers[: r.randrange(4)] if r.random() < 0.5 else numbers + [3]
     return "store" + "".join(" %d" % n for n in numbers)
+
+
+def cut_store(r):
+    """A store as power that fails between the two writes leaves it: beside the slot that counts, one with the count after it and most often another's check."""
+    count = r.choice([0, 1, 1, 2, 3, 7, 8, 15])
+    slots = [(count, model.check(count)), (count + 1, model.check(max(count + r.choice([-1, -1, -1, 0, 1]), 0)))]
+    return "store" + "".join(" %d %d" % slot for slot in r.sample(slots, 2))
+
+
+def power(r):
+    return "power " + r.choice("0 0 1 1 1 2 2 3 01 18446744073709551615 18446744073709551616 -1 x".split() + ["", "1 ", " 1"])
+
+
+def cut(r):
+    """A request while power fails, and what is left; then one more, or none."""
+    asked_with = ["levels 4 bits 4 seed 17"] if r.random() < 0.5 else []
+    lines = ["power %d" % r.choice([0, 1, 1, 1])] + asked_with + ["sign " + r.choice(TEXTS), "state", "slot"]
+    return lines + ["sign " + r.choice(TEXTS), "state"][: r.randrange(3)]
 
 
 # What is asked with more levels than these is refused, or costs nothing since there are no bits.
@@ -61,17 +82,21 @@ def spoil(r, lines):
 
 def session(r):
     """The lines of one session. What it looks at are signatures by the model, for the settings at that place."""
-    lines = [store(r), levels(r)]
+    lines = [store(r), levels(r)] if r.random() < 0.95 else []
     for _ in range(r.randrange(3, 9)):
-        kind = r.choice("store levels root line sign sign sign look look look look".split())
+        kind = r.choice("store levels root line power state slot cut cut sign sign sign look look look look".split())
         if kind == "store":
             lines.append(store(r))
         elif kind == "levels":
             lines.append(levels(r))
-        elif kind == "root":
-            lines.append("root")
+        elif kind == "power":
+            lines.append(power(r))
+        elif kind in ("root", "state", "slot"):
+            lines.append(kind)
+        elif kind == "cut":
+            lines += cut(r)
         elif kind == "line":
-            lines.append(r.choice(["", "sign", " root", "root ", "store  1", "levels 0 bits 4", "look", "store 4294967296 3 0 3", "sIgn x"]))
+            lines.append(r.choice(UNREADABLE))
         elif kind == "sign":
             lines.append("sign " + r.choice(TEXTS))
         else:
@@ -112,18 +137,28 @@ def any_levels(r, lines, text):
     return "%064x" % root, model.signature_lines(key, parts, others, path)
 
 
+def compared(seed, data):
+    """The lines that the program prints, which are the model's."""
+    ours, theirs = program(data).decode(), "".join(answer + "\n" for answer in model.answers(data))
+    if ours != theirs:
+        sys.exit("session %d differs:\n%s\nprogram:\n%s\nmodel:\n%s" % (seed, data.decode(), ours, theirs))
+    return ours.split("\n")
+
+
+def how_many(default):
+    """How many sessions, and the first seed."""
+    return [int(x) for x in sys.argv[1:3] + [default, "0"][len(sys.argv) - 1 :]]
+
+
 def main():
-    count, first = [int(x) for x in sys.argv[1:3] + ["500", "0"][len(sys.argv) - 1 :]]
+    count, first = how_many("500")
     seen = {}
     for seed in range(first, first + count):
-        data = session(random.Random(seed))
-        ours, theirs = program(data).decode(), "".join(answer + "\n" for answer in model.answers(data))
-        if ours != theirs:
-            sys.exit("session %d differs:\n%s\nprogram:\n%s\nmodel:\n%s" % (seed, data.decode(), ours, theirs))
-        for line in theirs.split("\n"):
+        for line in compared(seed, session(random.Random(seed))):
             word = line.split(" ")[0] if not line[:1].isdigit() or len(line) > 40 else "refusal " + line.split(" ")[0]
             seen[word if len(word) < 20 else "a root"] = seen.get(word if len(word) < 20 else "a root", 0) + 1
     print("%d sessions agree; answers: %s" % (count, ", ".join("%s %d" % kv for kv in sorted(seen.items()) if kv[0])))
 
 
-main()
+if __name__ == "__main__":
+    main()
