@@ -1,7 +1,7 @@
 -- The store while a key is reserved: it stays sound, and the next key rises by one where both numbers are written.
-use Rattle.std.proofs.Common.{◌≡◌, ℕ, zero, suc, ◌+◌, ◌*◌, ◌<◌, ◌≤◌, true, ◌⊎◌, List, [], ◌∷◌, set, sym, refl, subst₂, inl, inr, arith}
+use Rattle.std.proofs.Common.{◌≡◌, ◌∙◌, ℕ, zero, suc, ◌+◌, ◌*◌, ◌<◌, ◌≤◌, true, ◌⊎◌, List, [], ◌∷◌, set, sym, refl, ap, subst, subst₂, inl, inr, arith}
 use Rattle.std.proofs.lemmas.Bool.Decides.{nat_tests}
-use Rattle.counter.specs.Store.{check, written, next, reserved, sound}
+use Rattle.counter.specs.Store.{check, slot_ok, written, next, reserved, sound, counting}
 
 -- a store of four numbers whose first slot is written next, and one whose second is
 first_written : (a p b q : ℕ) → q ≡ check b → (p ≡ check a → a ≤ b) →
@@ -45,3 +45,53 @@ kept n (a ∷ p ∷ []) s = grind arith
 kept n (a ∷ p ∷ b ∷ []) s = grind arith
 kept n (a ∷ p ∷ b ∷ q ∷ []) s = kept_four n a p b q s
 kept n (a ∷ p ∷ b ∷ q ∷ x ∷ xs) s = grind arith
+
+-- a count that is one more than the next key does not have the check of a smaller one, since it is less than the modulus away
+no_match : (a b : ℕ) → a ≤ b → b < 4294967290 → check a ≡ check (b + 1) → ⊥
+no_match a b l u e = omega arith
+
+cut_four : (a p b q : ℕ) → p ≡ check a → q ≡ check b → next (a ∷ p ∷ b ∷ q ∷ []) < 4294967290 →
+    next (reserved 1 (a ∷ p ∷ b ∷ q ∷ [])) ≡ next (a ∷ p ∷ b ∷ q ∷ [])
+cut_four a p b q e f u =
+    elim (which a p b q (grind (arith, nat_tests))) [
+      | inl v ↦
+          let n = first_written a p b q f v.1 in
+          let w = first_written (b + 1) p b q f (λ z. absurd (no_match a b (v.1 e) (omega (arith, n.2)) (sym e ∙ z))) in
+          subst₂ (λ (y x : ℕ). next (set (a ∷ p ∷ b ∷ q ∷ []) (2 * y) (x + 1)) ≡ x) (sym n.1) (sym n.2) w.2
+      | inr v ↦
+          let n = second_written a p b q e v.1 in
+          let below = v.1 f in
+          let w = second_written a p (a + 1) q e (λ z. absurd (no_match b a (omega arith) (omega (arith, n.2)) (sym f ∙ z))) in
+          subst₂ (λ (y x : ℕ). next (set (a ∷ p ∷ b ∷ q ∷ []) (2 * y) (x + 1)) ≡ x) (sym n.1) (sym n.2) w.2
+    ]
+
+-- where both slots are right, a count that is written alone changes nothing
+pub cut_keeps : (m : List ℕ) → sound m ≡ true → slot_ok m 0 ≡ true → slot_ok m 1 ≡ true → next m < 4294967290 → next (reserved 1 m) ≡ next m
+cut_keeps [] s e f u = grind arith
+cut_keeps (a ∷ []) s e f u = grind arith
+cut_keeps (a ∷ p ∷ []) s e f u = grind arith
+cut_keeps (a ∷ p ∷ b ∷ []) s e f u = grind arith
+cut_keeps (a ∷ p ∷ b ∷ q ∷ []) s e f u = cut_four a p b q (grind (arith, nat_tests)) (grind (arith, nat_tests)) u
+cut_keeps (a ∷ p ∷ b ∷ q ∷ x ∷ xs) s e f u = grind arith
+
+-- the slot that counts holds the next key and its check
+counting_four : (a p b q : ℕ) → sound (a ∷ p ∷ b ∷ q ∷ []) ≡ true → counting (a ∷ p ∷ b ∷ q ∷ []) ≡ next (a ∷ p ∷ b ∷ q ∷ []) ∷ check (next (a ∷ p ∷ b ∷ q ∷ [])) ∷ []
+counting_four a p b q s =
+    elim (which a p b q s) [
+      | inl v ↦
+          let n = first_written a p b q v.0 v.1 in
+          let e : counting (a ∷ p ∷ b ∷ q ∷ []) ≡ b ∷ q ∷ [] = rw (s, n.1) refl in
+          e ∙ subst (λ (x : ℕ). b ∷ q ∷ [] ≡ x ∷ check x ∷ []) (sym n.2) (ap (λ (y : ℕ). b ∷ y ∷ []) v.0)
+      | inr v ↦
+          let n = second_written a p b q v.0 v.1 in
+          let e : counting (a ∷ p ∷ b ∷ q ∷ []) ≡ a ∷ p ∷ [] = rw (s, n.1) refl in
+          e ∙ subst (λ (x : ℕ). a ∷ p ∷ [] ≡ x ∷ check x ∷ []) (sym n.2) (ap (λ (y : ℕ). a ∷ y ∷ []) v.0)
+    ]
+
+pub counting_is : (m : List ℕ) → sound m ≡ true → counting m ≡ next m ∷ check (next m) ∷ []
+counting_is [] s = grind arith
+counting_is (a ∷ []) s = grind arith
+counting_is (a ∷ p ∷ []) s = grind arith
+counting_is (a ∷ p ∷ b ∷ []) s = grind arith
+counting_is (a ∷ p ∷ b ∷ q ∷ []) s = counting_four a p b q s
+counting_is (a ∷ p ∷ b ∷ q ∷ x ∷ xs) s = grind arith

@@ -4,7 +4,7 @@ use Rattle.keys.specs.Refusals.{refusal_number, refusal_place, first, levels_ref
 use Rattle.keys.specs.declared.refusal.Refusal.{Refusal}
 use Rattle.keys.specs.declared.refusal.Refusal.TheVariants.{Store, NextKey}
 use Rattle.tree.specs.Tree.{power}
-use Rattle.counter.specs.Store.{next, sound, gives}
+use Rattle.counter.specs.Store.{next, sound, step, gives}
 use Rattle.counter.specs.declared.answer.Done.{Done}
 use Rattle.counter.specs.declared.answer.Done.TheVariants.{Key, Cut, Empty, Refused}
 
@@ -42,3 +42,10 @@ unrefused l m w None = if gives l m w then Key (next m) else if nat_lt (next m) 
 abbrev pub unless_refused : {A : Type 0} → Option Refusal → A → A → A
 unless_refused (Some r) x y = x
 unless_refused None x y = y
+
+-- the answer to a request for a key, with power for w writes, and the store afterwards
+abbrev pub reserve_answer : (levels : ℕ) → List ℕ → (writes : ℕ) → Done
+reserve_answer l m w = unrefused l m w (reserve_refusal l m)
+
+abbrev pub reserve_stored : (levels : ℕ) → List ℕ → (writes : ℕ) → List ℕ
+reserve_stored l m w = unless_refused (reserve_refusal l m) m (step l m w)

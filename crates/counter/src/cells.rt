@@ -7,7 +7,7 @@ ghost use Rattle.counter.specs.declared.write.Write.{Write as OneWrite};
 use crate::write::Write;
 
 // A number was not written: power failed before it, or there is no such cell.
-#[derive(Clone, Copy, Debug, PartialEq, Eq)]
+#[derive(Clone, Copy)]
 pub struct NotWritten;
 
 pub trait Cells {

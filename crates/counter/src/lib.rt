@@ -5,6 +5,7 @@ mod answer;
 mod cells;
 mod history;
 mod lent;
+pub mod promises;
 mod reserving;
 mod store;
 mod write;

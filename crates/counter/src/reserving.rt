@@ -1,9 +1,9 @@
 // Asking a store for a key, and the slot that counts.
 ghost use Rattle.std.specs.Prelude.{◌≡◌, ⊤};
 ghost use Rattle.keys.specs.Refusals.{Unless};
-ghost use Rattle.counter.specs.Answers.{reserve_refusal, unrefused, unless_refused};
+ghost use Rattle.counter.specs.Answers.{reserve_refusal, reserve_answer, reserve_stored};
 ghost use Rattle.counter.specs.Reserving.{ForPower, Asked};
-ghost use Rattle.counter.specs.Store.{step, counting};
+ghost use Rattle.counter.specs.Store.{counting};
 
 use crate::answer::Done;
 use crate::cells::Cells;
@@ -52,8 +52,8 @@ pub fn reserve_in<C: Cells>(levels: u64, cells: &mut C) -> Done
 
 // The same in a lent slice, with power for so many writes.
 pub fn reserve(levels: u64, store: &mut [u32], lasts: u64) -> Done
-    ensures answer { result ≡ unrefused levels store.old lasts (reserve_refusal levels store.old) }
-    ensures store { store.new ≡ unless_refused (reserve_refusal levels store.old) store.old (step levels store.old lasts) }
+    ensures answer { result ≡ reserve_answer levels store.old lasts }
+    ensures store { store.new ≡ reserve_stored levels store.old lasts }
 {
     reserve_in(levels, &mut LentCells::new(store, lasts))
 }
