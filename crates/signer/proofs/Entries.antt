@@ -4,8 +4,8 @@ use Rattle.std.proofs.lemmas.Bool.Decides.{nat_tests}
 use Rattle.keys.specs.Refusals.{levels_refusal, bits_refusal}
 use Rattle.tree.specs.Tree.{power}
 use Rattle.signer.specs.Answers.{refusal, answer}
-use Rattle.signer.specs.Store.{next, sound}
-use Rattle.signer.specs.declared.answer.Done.TheVariants.{Key}
+use Rattle.counter.specs.Store.{next, sound}
+use Rattle.counter.specs.declared.answer.Done.TheVariants.{Key}
 
 -- all that a request has passed which is not refused
 pub taken : (l : ℕ) (m : List ℕ) (n : ℕ) → None ≡ refusal l m n → (None ≡ levels_refusal l) × (sound m ≡ true) × (next m ≤ power l) × (None ≡ bits_refusal n)

@@ -1,5 +1,4 @@
 -- The lemmas of this crate.
-mod Counting
 pub mod Entries
 mod Know
 mod OneTree

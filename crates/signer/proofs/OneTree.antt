@@ -6,7 +6,7 @@ use Rattle.hash.proofs.Members.{In-append, In_left, In_right, one_each}
 use Rattle.tree.specs.Tree.{power}
 use Rattle.signer.specs.OneTree.{Asked, sign, KeyGiven, NeverTwice}
 use Rattle.signer.specs.Runs.{Request, Issued}
-use Rattle.signer.specs.Store.{next, sound, step, gives}
+use Rattle.counter.specs.Store.{next, sound, step, gives}
 use Rattle.signer.proofs.Runs.{Steps, run, rising, step_kept}
 
 -- what a request gives, where the test t says that it does

@@ -7,11 +7,12 @@ use Rattle.hash.proofs.Members.{In-append, from_map, one_each}
 use Rattle.keys.specs.Limits.{max_levels}
 use Rattle.keys.specs.declared.refusal.Refusal.{Refusal}
 use Rattle.tree.specs.Tree.{power}
-use Rattle.signer.specs.Answers.{refusal, unrefused, unless_refused}
+use Rattle.counter.specs.Answers.{unrefused, unless_refused}
+use Rattle.signer.specs.Answers.{refusal}
 use Rattle.signer.specs.Promises.{KeysRise, OneRow}
 use Rattle.signer.specs.Runs.{Request, Issued, answered, after, issued, given}
-use Rattle.signer.specs.Store.{next, sound, step, gives}
-use Rattle.signer.proofs.Counting.{kept}
+use Rattle.counter.specs.Store.{next, sound, step, gives}
+use Rattle.counter.proofs.Counting.{kept}
 
 -- a step keeps a store sound, its next key never falls, and it is one more where the key was given
 pub step_kept : (l : ℕ) (m : List ℕ) (w : ℕ) → sound m ≡ true →

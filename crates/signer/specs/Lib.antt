@@ -3,4 +3,3 @@ pub mod Answers
 pub mod OneTree
 pub mod Promises
 pub mod Runs
-pub mod Store

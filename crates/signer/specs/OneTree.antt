@@ -4,7 +4,7 @@ use Rattle.hash.specs.Mix.{Mix}
 use Rattle.keys.specs.Keys.{secret}
 use Rattle.tree.specs.Tree.{power, node}
 use Rattle.signatures.specs.Signatures.{Signature, parts_from, signed, accepted}
-use Rattle.signer.specs.Store.{next, reserved, sound, step, gives}
+use Rattle.counter.specs.Store.{next, reserved, sound, step, gives}
 
 -- two different rows with the same hash
 abbrev pub Collision : Mix → Type 0

@@ -2,8 +2,9 @@
 use Rattle.std.specs.Prelude.{ℕ, Bool, if◌then◌else◌, List, [], ◌∷◌, ◌++◌, map, length, ◌==◌}
 use Rattle.hash.specs.Mix.{Mix}
 use Rattle.signatures.specs.Signatures.{Signature, signed}
-use Rattle.signer.specs.Answers.{done_number, done_values, answer, stored}
-use Rattle.signer.specs.declared.answer.Done.{Done}
+use Rattle.counter.specs.Answers.{done_number, done_values}
+use Rattle.signer.specs.Answers.{answer, stored}
+use Rattle.counter.specs.declared.answer.Done.{Done}
 
 -- a request: a tree of how many levels, which bits to sign, and for how many writes power lasts
 pub record Request : Type 0 where

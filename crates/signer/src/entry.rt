@@ -6,63 +6,63 @@ ghost use Rattle.tree.specs.Tree.{node};
 ghost use Rattle.signatures.specs.Rows.{LocatedCollision};
 ghost use Rattle.signatures.specs.Signatures.{accepted};
 ghost use Rattle.signatures.specs.Views.{viewed};
+ghost use Rattle.counter.specs.Reserving.{ForPower, Asked};
 ghost use Rattle.signer.specs.Answers.{refusal, answer, stored, RoomSays, GivenAccepted};
 ghost use Rattle.signer.specs.Promises.{Own};
 
-use crate::answer::Done;
-use crate::store::Store;
+use counter::{Cells, Done, LentCells, refuse_store, reserve_in};
 use hash::{Number, RowHasher};
 use keys::{Refusal, Signer};
 use signatures::{SignatureRoom, SignatureView, sign_with, verify};
-use tree::in_tree;
-
-// The store that a request may be signed from, or the first refusal that applies to signing so many bits.
-fn admit(levels: u64, store: &[u32], bits: u64) -> Result<Store, Refusal>
-    ensures { Unless (refusal levels store.now bits) result (λ s. s.cells ≡ store.now) }
-{
-    Signer::refuse_levels(levels)?;
-    let store = Store::try_from(store)?;
-    store.refuse_key(levels)?;
-    Signer::refuse_bits(bits)?;
-    Ok(store)
-}
 
 // The first refusal that applies to signing so many bits, if one does.
 pub fn refuse(levels: u64, store: &[u32], bits: u64) -> Result<(), Refusal>
     ensures { Unless (refusal levels store.now bits) result (λ _. ⊤) }
 {
-    admit(levels, store, bits)?;
-    Ok(())
+    refuse_store(levels, store)?;
+    Signer::refuse_bits(bits)
 }
 
-// Signs a row of bits with the next key, in the room. The store is lent: the key is reserved here, and its count is written before anything of the signature exists.
+// Signs a row of bits with the next key of the store in the cells, in the room. The key is reserved here, and nothing of the signature is made before both numbers of its slot are written: where power fails the room is as it was.
+pub fn sign_in<H: RowHasher, C: Cells>(
+    signer: &Signer,
+    bits: &[bool],
+    cells: &mut C,
+    room: &mut SignatureRoom,
+) -> Done
+    ensures asked { ForPower (C.lasts cells.old) (Asked (refusal signer.now.levels (C.held cells.old) (length bits.now)) signer.now.levels (C.held cells.old) result (C.writes cells.old) (C.writes cells.new) (C.held cells.new)) }
+    ensures room { RoomSays H.mix (value_of signer.now.seed) signer.now.levels bits.now result room.old room.new }
+    ensures accepted { GivenAccepted H.mix (value_of signer.now.seed) signer.now.levels bits.now result room.new }
+    ensures loan { C.loan cells.new ≡ C.loan cells.old }
+{
+    // No `?`, since here a refusal is one of the answers.
+    if let Err(refusal) = refuse(signer.levels, cells.numbers(), bits.len() as u64) {
+        return Done::Refused(refusal);
+    }
+    match reserve_in(signer.levels, cells) {
+        Done::Key(key) => match sign_with::<H>(signer, key, bits, room) {
+            Ok(()) => Done::Key(key),
+            // What would be refused here was refused above.
+            Err(refusal) => Done::Refused(refusal),
+        },
+        done => done,
+    }
+}
+
+// The same with the store in a lent slice, and power for so many writes.
 pub fn sign<H: RowHasher>(
     signer: &Signer,
     bits: &[bool],
     store: &mut [u32],
+    lasts: u64,
     room: &mut SignatureRoom,
 ) -> Done
-    ensures answer { result ≡ answer signer.now.levels store.old (length bits.now) 2 }
-    ensures store { store.new ≡ stored signer.now.levels store.old (length bits.now) 2 }
+    ensures answer { result ≡ answer signer.now.levels store.old (length bits.now) lasts }
+    ensures store { store.new ≡ stored signer.now.levels store.old (length bits.now) lasts }
     ensures room { RoomSays H.mix (value_of signer.now.seed) signer.now.levels bits.now result room.old room.new }
     ensures accepted { GivenAccepted H.mix (value_of signer.now.seed) signer.now.levels bits.now result room.new }
 {
-    // No `?`, since here a refusal is one of the answers.
-    let read = match admit(signer.levels, store, bits.len() as u64) {
-        Ok(read) => read,
-        Err(refusal) => return Done::Refused(refusal),
-    };
-    if !in_tree(u64::from(read.next_key()), signer.levels) {
-        return Done::Empty;
-    }
-    let counted = read.reserve(store);
-    // Read back from the store, the key is the one below the count: made before the count is written, the signature would be by another key.
-    let key = u64::from(counted.next_key()) - 1;
-    // No `?` here either; and what would be refused here `admit` has refused.
-    match sign_with::<H>(signer, key, bits, room) {
-        Ok(()) => Done::Key(key),
-        Err(refusal) => Done::Refused(refusal),
-    }
+    sign_in::<H, LentCells<'_>>(signer, bits, &mut LentCells::new(store, lasts), room)
 }
 
 // Whether a signature is accepted, for a row of bits and a root of so many levels. If it is, then of every signer whose root this is it is that signer's own, or two rows are shown that hash to the same.

@@ -1,5 +1,5 @@
 -- As proved in Counting, with no bound on the next key.
-use Rattle.signer.proofs.Counting.{kept}
+use Rattle.counter.proofs.Counting.{kept}
 use Rattle.signer.proofs.promises.stays_sound.Goals as goal
 
 pub returns : goal.returns
