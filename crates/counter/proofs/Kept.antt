@@ -43,7 +43,7 @@ store_kept_lem l n m h s =
         no_smaller = rw f (omega arith);
         one_at_most = rw f (omega arith);
         one_if_given = rw f (λ g. absurd (false≢true g));
-        none_if_cut = rw f (λ _ _ _. refl);
+        none_if_cut = rw f (λ _ _ _. refl {a = next m});
       }
     ]
 

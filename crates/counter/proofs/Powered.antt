@@ -1,15 +1,17 @@
 -- What holds with power for the number of writes that is known, or else for some number.
-use Rattle.std.proofs.Common.{◌≡◌, ap, ◌<◌, Err, ℕ, ◌≤◌, true, false, if◌then◌else◌, ltb, Bool, List, Some, None, Option, refl, sym, arith}
+use Rattle.std.proofs.Common.{◌≡◌, ap, ◌<◌, Err, Ok, ◌∙◌, ℕ, ◌≤◌, true, false, if◌then◌else◌, ltb, Bool, List, Some, None, Option, refl, sym, arith}
 use Rattle.std.proofs.lemmas.Bool.Decides.{nat_tests}
 use Rattle.std.proofs.lemmas.List.{append-nil}
 use Rattle.std.specs.Prelude.{⊤}
 use Rattle.keys.specs.declared.refusal.Refusal.{Refusal}
+use Rattle.keys.proofs.Refused.{unrefused}
 use Rattle.tree.specs.Tree.{power}
 use Rattle.keys.specs.Refusals.{levels_refusal, Unless}
-use Rattle.counter.specs.Answers.{reserve_refusal, unrefused}
+use Rattle.counter.specs.Answers.{reserve_refusal, unrefused as answer_by}
 use Rattle.counter.specs.Reserving.{ForPower, Written, Asked}
 use Rattle.counter.specs.Store.{next, sound}
 use Rattle.counter.specs.declared.answer.Done.TheVariants.{Key, Cut, Empty, Refused}
+use Rattle.counter.specs.declared.store.Store.{Store}
 use Rattle.counter.specs.declared.write.Write.{Write}
 
 pub by_power : (o : Option ℕ) (P : ℕ → Type 0) → (w : ℕ) × P w → ((w : ℕ) → o ≡ Some w → P w) → ForPower o P
@@ -44,8 +46,13 @@ key_asked k o l key m m₁ ws ws₁ b e q f =
 pub reserve_taken : (l : ℕ) (m : List ℕ) → None ≡ reserve_refusal l m → (None ≡ levels_refusal l) × (sound m ≡ true) × (next m ≤ power l)
 reserve_taken l m e = grind (arith, nat_tests)
 
+-- a store that was admitted is what the cells hold
+pub admitted : (l : ℕ) (numbers m : List ℕ) (s : Store) → Unless (reserve_refusal l numbers) (Ok s) (λ (t : Store). t.cells ≡ numbers) → numbers ≡ m → (None ≡ reserve_refusal l m) × (s.cells ≡ m)
+admitted l numbers m s u e =
+    let a = unrefused (reserve_refusal l numbers) s (λ (t : Store). t.cells ≡ numbers) u in (rw e at a.0, a.1 ∙ e)
+
 -- a key that is given is one of the tree's
-key_below : (l w key : ℕ) (m : List ℕ) (o : Option Refusal) → Key key ≡ unrefused l m w o → key < power l
+key_below : (l w key : ℕ) (m : List ℕ) (o : Option Refusal) → Key key ≡ answer_by l m w o → key < power l
 key_below l w key m (Some r) e = absurd cc
 key_below l w key m None e = grind (arith, nat_tests)
 

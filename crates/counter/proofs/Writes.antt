@@ -1,8 +1,8 @@
 -- The writes that reserve a key, made one after the other.
-use Rattle.std.proofs.Common.{◌≡◌, ℕ, zero, suc, ◌+◌, ◌-◌, ◌*◌, ◌<◌, ◌≤◌, Bool, true, false, ltb, List, [], ◌∷◌, ◌++◌, length, length-set, set, refl, ap, sym, ◌∙◌, append_assoc, arith}
+use Rattle.std.proofs.Common.{◌≡◌, ℕ, zero, suc, ◌+◌, ◌-◌, ◌*◌, ◌<◌, ◌≤◌, Bool, true, false, ltb, List, ◌++◌, length, length-set, set, refl, ap, sym, ◌∙◌, append_assoc, arith}
 use Rattle.std.proofs.lemmas.Bool.Decides.{nat_tests}
 use Rattle.std.proofs.lemmas.List.{append-nil, take_all}
-use Rattle.counter.specs.Cells.{left_by, only_if}
+use Rattle.counter.specs.Cells.{left_by, made_if}
 use Rattle.counter.specs.Reserving.{Written}
 use Rattle.counter.specs.Store.{check, written, next, reserving, sound}
 use Rattle.counter.specs.declared.write.Write.{Write}
@@ -20,24 +20,24 @@ none_written m ws w e = rw (no_power w e) (record { both = refl; writes = sym (a
 
 -- the count was written, and its check or not
 module _ (m : List ℕ) (ws : List Write) where
-  abbrev count : Write
-  count = record { place = 2 * written m; value = next m + 1 }
+  abbrev count : List Write
+  count = made_if true (2 * written m) (next m + 1)
 
-  abbrev check_of_it : Write
-  check_of_it = record { place = 2 * written m + 1; value = check (next m + 1) }
+  abbrev check_if : Bool → List Write
+  check_if ok = made_if ok (2 * written m + 1) (check (next m + 1))
 
   abbrev After : Bool → ℕ → Type 0
-  After ok w = Written m ok ws ((ws ++ (count ∷ [])) ++ only_if ok check_of_it) (left_by (only_if ok check_of_it) (set m (2 * written m) (next m + 1))) w
+  After ok w = Written m ok ws ((ws ++ count) ++ check_if ok) (left_by (check_if ok) (set m (2 * written m) (next m + 1))) w
 
   one : (w : ℕ) → 1 ≤ w → w < 2 → After false w
   one zero l u = absurd (omega arith)
-  one (suc zero) l u = record { both = refl; writes = append-nil (ws ++ (count ∷ [])); held = refl }
+  one (suc zero) l u = record { both = refl; writes = append-nil (ws ++ count); held = refl }
   one (suc (suc w)) l u = absurd (omega arith)
 
   two : (w : ℕ) → 2 ≤ w → After true w
   two zero l = absurd (omega arith)
   two (suc zero) l = absurd (omega arith)
-  two (suc (suc w)) l = record { both = grind (arith, nat_tests); writes = append_assoc ws (count ∷ []) (check_of_it ∷ []) ∙ ap (λ (x : List Write). ws ++ x) (sym (take_all (suc (suc w)) (reserving m) l)); held = refl }
+  two (suc (suc w)) l = record { both = grind (arith, nat_tests); writes = append_assoc ws count (check_if true) ∙ ap (λ (x : List Write). ws ++ x) (sym (take_all (suc (suc w)) (reserving m) l)); held = refl }
 
   one_written : (ok : Bool) (w : ℕ) → true ≡ ltb 0 w → ok ≡ ltb 0 (w - 1) → After ok w
   one_written false w p e = one w (grind (arith, nat_tests)) (grind (arith, nat_tests))
@@ -50,7 +50,7 @@ pub record Counted (m m₀ m₁ : List ℕ) (ws ws₁ : List Write) (p k : ℕ) 
   pub place : p ≡ written m
   pub key : k ≡ next m
   pub held : m₁ ≡ set m₀ (2 * p) (k + 1)
-  pub writes : ws₁ ≡ ws ++ (record { place = 2 * p; value = k + 1 } ∷ [])
+  pub writes : ws₁ ≡ ws ++ made_if true (2 * p) (k + 1)
 
 pub check_fits : (m m₀ m₁ : List ℕ) (ws ws₁ : List Write) (p k : ℕ) → Counted m m₀ m₁ ws ws₁ p k → 2 * p + 1 < length m₁
 check_fits m m₀ m₁ ws ws₁ p k c = rw (c.held, length-set m₀ (2 * p) (k + 1), c.read, c.place) (fits m c.sound).1
@@ -58,7 +58,7 @@ check_fits m m₀ m₁ ws ws₁ p k c = rw (c.held, length-set m₀ (2 * p) (k +
 -- then its check is written, or not
 module _ (m m₀ m₁ m₂ : List ℕ) (ws ws₁ ws₂ : List Write) (p k v : ℕ) (c : Counted m m₀ m₁ ws ws₁ p k) (q : v ≡ check (k + 1)) where
   abbrev last : Bool → List Write
-  last ok = only_if ok (record { place = 2 * p + 1; value = v })
+  last ok = made_if ok (2 * p + 1) v
 
   pub checked : (ok : Bool) → m₂ ≡ left_by (last ok) m₁ → ws₂ ≡ ws₁ ++ last ok → (w : ℕ) → true ≡ ltb 0 w → ok ≡ ltb 0 (w - 1) → Written m₀ ok ws ws₂ m₂ w
   checked ok d f w l r = rw (f, d, c.writes, c.held, q, c.key, c.place, c.read) (one_written m ws ok w l r)

@@ -7,6 +7,6 @@ abbrev pub left_by : List Write → List ℕ → List ℕ
 left_by [] m = m
 left_by (w ∷ ws) m = left_by ws (slice_set m w.place w.value)
 
--- a write that was made, or none
-abbrev pub only_if : Bool → Write → List Write
-only_if t w = if t then w ∷ [] else []
+-- a write of a value in a cell, if it was made
+abbrev pub made_if : Bool → (place value : ℕ) → List Write
+made_if t p v = if t then record { place = p; value = v } ∷ [] else []

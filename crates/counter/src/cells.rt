@@ -1,10 +1,8 @@
 // A store's cells, as the device that holds them: each number is written at once, and power may fail before a write.
 ghost use Rattle.std.specs.Prelude.{◌≡◌, ℕ, ◌-◌, ◌<◌, List, ◌++◌, length, is_ok, Option, Some, nat_lt};
 ghost use Rattle.std.specs.Borrow.{GName};
-ghost use Rattle.counter.specs.Cells.{left_by, only_if};
+ghost use Rattle.counter.specs.Cells.{left_by, made_if};
 ghost use Rattle.counter.specs.declared.write.Write.{Write as OneWrite};
-
-use crate::write::Write;
 
 // A number was not written: power failed before it, or there is no such cell.
 #[derive(Clone, Copy)]
@@ -27,9 +25,9 @@ pub trait Cells {
         ensures { result.now ≡ held self.now };
 
     // Writes one number, or nothing.
-    fn write(&mut self, write: Write) -> Result<(), NotWritten>
-        ensures held { held self.new ≡ left_by (only_if (is_ok result) write) (held self.old) }
-        ensures writes { writes self.new ≡ writes self.old ++ only_if (is_ok result) write }
-        ensures lasts { (n : ℕ) → lasts self.old ≡ Some n → write.place < length (held self.old) → (is_ok result ≡ nat_lt 0 n) × (lasts self.new ≡ Some (n - 1)) }
+    fn write(&mut self, place: usize, value: u32) -> Result<(), NotWritten>
+        ensures held { held self.new ≡ left_by (made_if (is_ok result) place value) (held self.old) }
+        ensures writes { writes self.new ≡ writes self.old ++ made_if (is_ok result) place value }
+        ensures lasts { (n : ℕ) → lasts self.old ≡ Some n → place < length (held self.old) → (is_ok result ≡ nat_lt 0 n) × (lasts self.new ≡ Some (n - 1)) }
         ensures loan { loan self.new ≡ loan self.old };
 }

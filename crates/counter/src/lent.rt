@@ -41,13 +41,13 @@ impl<'a> Cells for LentCells<'a> {
         self.cells
     }
 
-    fn write(&mut self, write: Write) -> Result<(), NotWritten> {
-        if self.lasts == 0 || write.place >= self.cells.len() {
+    fn write(&mut self, place: usize, value: u32) -> Result<(), NotWritten> {
+        if self.lasts == 0 || place >= self.cells.len() {
             return Err(NotWritten);
         }
         self.lasts -= 1;
-        self.cells[write.place] = write.value;
-        self.history = self.history.then(&write);
+        self.cells[place] = value;
+        self.history = self.history.then(&Write { place, value });
         Ok(())
     }
 }

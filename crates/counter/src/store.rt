@@ -6,7 +6,6 @@ ghost use Rattle.counter.specs.Reserving.{ForPower, Written};
 ghost use Rattle.counter.specs.Store.{check, slot_ok, written, next, sound};
 
 use crate::cells::{Cells, NotWritten};
-use crate::write::Write;
 use keys::Refusal;
 use tree::key_count;
 
@@ -104,13 +103,7 @@ impl Store {
     {
         let count = self.next_key() + 1;
         let place = 2 * self.slot_to_write();
-        cells.write(Write {
-            place,
-            value: count,
-        })?;
-        cells.write(Write {
-            place: place + 1,
-            value: check_of(count),
-        })
+        cells.write(place, count)?;
+        cells.write(place + 1, check_of(count))
     }
 }
