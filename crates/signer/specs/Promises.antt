@@ -6,6 +6,8 @@ use Rattle.keys.specs.Keys.{secret}
 use Rattle.tree.specs.Tree.{power, node}
 use Rattle.signatures.specs.Signatures.{Signature, numbers, signed, accepted}
 use Rattle.signatures.specs.Rows.{OwnRow, looked_rows, CollisionOf, LocatedCollision}
+use Rattle.counter.specs.Answers.{reserve_answer, reserve_stored}
+use Rattle.signer.specs.Answers.{answer, stored}
 use Rattle.signer.specs.Runs.{Request, Issued, given, signature_given}
 
 -- what the signer signs is accepted
@@ -26,6 +28,10 @@ OwnOrLocated =
 -- whatever is asked, with whatever levels, bits and power, from any store: the keys that are given rise
 abbrev pub KeysRise : Type 0
 KeysRise = (m : List ℕ) (qs : List Request) → Rising (map (λ a. a.key) (given m qs))
+
+-- a key that is asked for alone is given, and leaves the store, as if one bit were signed: so runs of requests to sign speak of such requests too
+abbrev pub ReserveAsSign : Type 0
+ReserveAsSign = (l w : ℕ) (m : List ℕ) → (reserve_answer l m w ≡ answer l m 1 w) × (reserve_stored l m w ≡ stored l m 1 w)
 
 -- so no key signs two rows of bits
 abbrev pub OneRow : Type 0

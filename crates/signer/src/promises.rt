@@ -1,6 +1,6 @@
 // What is promised, for every hash: each statement is the contract of a function, so that the crate is proved only with its proof.
 ghost use Rattle.signer.specs.OneTree.{OwnOrCollision, NeverTwice, StaysSound, MustKnow};
-ghost use Rattle.signer.specs.Promises.{OwnAccepted, OwnOrLocated, KeysRise, OneRow, MustKnowLocated};
+ghost use Rattle.signer.specs.Promises.{OwnAccepted, OwnOrLocated, KeysRise, ReserveAsSign, OneRow, MustKnowLocated};
 
 // What the signer signs is accepted.
 #[tactic(auto, using(signatures::proofs::Own::own_accepted_lem))]
@@ -24,6 +24,12 @@ pub fn own_or_collision()
 #[tactic(auto, using(crate::proofs::Runs::keys_rise_lem))]
 pub fn keys_rise()
     ensures { KeysRise }
+{}
+
+// Keys that are asked for alone rise with those that sign.
+#[tactic(auto, using(crate::proofs::Entries::reserve_as_sign_lem))]
+pub fn reserve_as_sign()
+    ensures { ReserveAsSign }
 {}
 
 // Whatever is asked, no key signs two rows of bits.
