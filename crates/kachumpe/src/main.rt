@@ -4,17 +4,18 @@
 ghost use Rattle.std.specs.Prelude.{◌≡◌, ◌⊎◌, false, [], IfOk, OnOk};
 ghost use Rattle.texts.specs.Commands.{takes_lines};
 ghost use Rattle.texts.specs.SignatureLines.{line_after};
-ghost use Rattle.texts.specs.Sessions.{Executed};
+ghost use Rattle.sessions.specs.Sessions.{Executed};
 
 mod input;
 
 use hash::StandIn;
 use input::Input;
 use keys::Refusal;
+use sessions::Session;
 use std::alloc::Global;
 use std::io;
 use std::io::{BufRead, BufReader};
-use texts::{Command, Session, SignatureLines, read_command};
+use texts::{Command, SignatureLines, read_command};
 
 // The next line, counted; at the end of the input an empty one, and nothing is counted.
 fn line_or_empty<R: BufRead>(heap: Global, input: &mut Input<R>) -> io::Result<Vec<u8>>

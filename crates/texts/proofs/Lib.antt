@@ -1,4 +1,3 @@
 -- The lemmas of this crate.
 mod Commanded
 mod Cuts
-mod Promised

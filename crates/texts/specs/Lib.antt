@@ -1,6 +1,4 @@
--- The definitions that the contracts of this crate cite.
+-- The definitions that the contracts of this crate and of those above cite.
 pub mod Bits
 pub mod Commands
-pub mod Replies
-pub mod Sessions
 pub mod SignatureLines

@@ -1,14 +1,10 @@
-// Texts to bits, what the lines of the program ask, and what is answered.
+// Texts to bits, and what the lines of the program ask: commands, and the lines of a signature.
 #![tactic(auto)]
 
 pub mod bits;
 pub mod command;
-pub mod reply;
-pub mod session;
 pub mod signature;
 
 pub use bits::{digest, text_bits};
 pub use command::{Command, read_command};
-pub use reply::{look_text, root_text, sign_text};
-pub use session::Session;
 pub use signature::{ReadError, ReadSignature, SignatureLines, read_key};

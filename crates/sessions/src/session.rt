@@ -9,19 +9,17 @@ ghost use Rattle.signatures.specs.Signatures.{blank, accepted};
 ghost use Rattle.signatures.specs.Views.{viewed, held};
 ghost use Rattle.signer.specs.Answers.{answer, stored, RoomSays, GivenAccepted};
 ghost use Rattle.signer.specs.Promises.{Own};
-ghost use Rattle.texts.specs.Sessions.{bits_asked, look_answer, Executed, Failed, Answered, Promised};
 ghost use Rattle.texts.specs.SignatureLines.{SignatureRead};
 ghost use Rattle.texts.specs.declared.signature.ReadSignature.{ReadSignature};
+ghost use Rattle.sessions.specs.Sessions.{bits_asked, look_answer, Executed, Failed, Answered, Promised};
 
-use crate::bits::text_bits;
-use crate::command::Command;
 use crate::reply::{look_text, root_text, sign_text};
-use crate::signature::{ReadError, SignatureLines};
 use hash::{Number, RowHasher};
 use keys::{Refusal, Signer};
 use signatures::{SignatureRoom, SignatureView};
 use signer::{Done, look, refuse, sign};
 use std::alloc::{AllocError, Global};
+use texts::{Command, ReadError, SignatureLines, text_bits};
 use tree::Tree;
 
 // What the next lines are asked with.

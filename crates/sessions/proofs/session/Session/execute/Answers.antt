@@ -12,11 +12,11 @@ use Rattle.signer.specs.declared.answer.Done.{Done}
 use Rattle.signer.specs.declared.answer.Done.TheVariants.{Key, Cut, Empty, Refused}
 use Rattle.signer.proofs.Entries.{key_answered}
 use Rattle.texts.specs.Bits.{bits_of_text}
-use Rattle.texts.specs.Replies.{sign_spelled}
-use Rattle.texts.specs.Sessions.{look_answer, Executed, Answered}
 use Rattle.texts.specs.declared.command.Command.{Command}
-use Rattle.texts.proofs.Promised.{promised}
-use Rattle.texts.proofs.session.Session.execute.Goals as goal
+use Rattle.sessions.specs.Replies.{sign_spelled}
+use Rattle.sessions.specs.Sessions.{look_answer, Executed, Answered}
+use Rattle.sessions.proofs.Promised.{promised}
+use Rattle.sessions.proofs.session.Session.execute.Goals as goal
 
 spelled : (h : Mix) (s l n : ℕ) (m : List ℕ) (bs : List Bool) (d : Done) (r r₁ : SignatureRoom) → d ≡ answer l m n 2 → RoomSays h s l bs d r r₁ →
     sign_spelled d (held r₁) ≡ sign_spelled (answer l m n 2) (signed h s l (next m) bs)

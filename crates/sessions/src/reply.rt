@@ -1,7 +1,7 @@
 // What is printed for each answer.
 ghost use Rattle.std.specs.Prelude.{◌≡◌, IfOk, string_bytes};
 ghost use Rattle.signatures.specs.Views.{held};
-ghost use Rattle.texts.specs.Replies.{root_spelled, sign_spelled, look_spelled};
+ghost use Rattle.sessions.specs.Replies.{root_spelled, sign_spelled, look_spelled};
 
 use hash::Number;
 use keys::Refusal;

@@ -23,14 +23,14 @@ use Rattle.signer.specs.declared.answer.Done.{Done}
 use Rattle.signer.specs.declared.answer.Done.TheVariants.{Key}
 use Rattle.signer.proofs.Entries.{taken, key_answered}
 use Rattle.texts.specs.Bits.{text_row}
-use Rattle.texts.specs.Replies.{sign_spelled, look_spelled}
-use Rattle.texts.specs.Sessions.{bits_asked, look_answer, Says, Answered, Promised}
 use Rattle.texts.specs.SignatureLines.{signature_of, LinesOf, SignatureRead}
 use Rattle.texts.specs.declared.command.Command.{Command}
 use Rattle.texts.specs.declared.command.Command.TheVariants.{Store, Levels, Root, Sign, Look}
-use Rattle.texts.specs.declared.session.Session.{Session}
 use Rattle.texts.specs.declared.signature.ReadSignature.{ReadSignature}
 use Rattle.texts.specs.declared.signature.SignatureLines.{SignatureLines}
+use Rattle.sessions.specs.Replies.{sign_spelled, look_spelled}
+use Rattle.sessions.specs.Sessions.{bits_asked, look_answer, Says, Answered, Promised}
+use Rattle.sessions.specs.declared.session.Session.{Session}
 
 -- a text is only one
 says_same : (o : Option (String Global)) (p q : List ℕ) → Says o p → Says o q → p ≡ q

@@ -15,13 +15,13 @@ use Rattle.signer.specs.Store.{next}
 use Rattle.signer.specs.declared.answer.Done.TheVariants.{Key}
 use Rattle.std.specs.declared.alloc.Global.{Global}
 use Rattle.texts.specs.Bits.{bits_of_text}
-use Rattle.texts.specs.Replies.{sign_spelled, look_spelled}
 use Rattle.texts.specs.SignatureLines.{signature_of, LinesOf, SignatureRead}
 use Rattle.texts.specs.declared.command.Command.{Command}
 use Rattle.texts.specs.declared.command.Command.TheVariants.{Store, Levels, Root, Sign, Look}
-use Rattle.texts.specs.declared.session.Session.{Session}
 use Rattle.texts.specs.declared.signature.ReadSignature.{ReadSignature}
 use Rattle.texts.specs.declared.signature.SignatureLines.{SignatureLines}
+use Rattle.sessions.specs.Replies.{sign_spelled, look_spelled}
+use Rattle.sessions.specs.declared.session.Session.{Session}
 
 -- the signer and the number of bits are as they were
 abbrev pub SameSettings : (before after : Session) → Type 0

@@ -3,9 +3,9 @@ use Rattle.std.proofs.Common.{Ok, Err, refl, ap, ◌∙◌}
 use Rattle.std.proofs.lemmas.Result.{IfOk-weaker}
 use Rattle.hash.specs.Value.{value_of}
 use Rattle.signatures.specs.Signatures.{Signature, accepted}
-use Rattle.texts.specs.Replies.{look_spelled}
-use Rattle.texts.specs.Sessions.{bits_asked}
-use Rattle.texts.proofs.session.Session.look_at.Goals as goal
+use Rattle.sessions.specs.Replies.{look_spelled}
+use Rattle.sessions.specs.Sessions.{bits_asked}
+use Rattle.sessions.proofs.session.Session.look_at.Goals as goal
 
 pub returns-in_ok-accepted-in-Ok : goal.returns-in_ok-accepted-in-Ok
 returns-in_ok-accepted-in-Ok g c =

@@ -7,7 +7,7 @@ use Rattle.keys.proofs.Refused.{bits_taken, unrefused}
 use Rattle.signer.specs.Answers.{refusal, answer, stored, RoomSays, GivenAccepted}
 use Rattle.signer.proofs.Entries.{taken}
 use Rattle.texts.specs.Bits.{text_row}
-use Rattle.texts.proofs.session.Session.sign.Goals as goal
+use Rattle.sessions.proofs.session.Session.sign.Goals as goal
 
 same_at : {A : Type 0} (f : List ℕ → ℕ → A) {x m : List ℕ} {k n : ℕ} → x ≡ m → k ≡ n → f x k ≡ f m n
 same_at f {x} {m} {k} {n} e d = ap (λ (y : List ℕ). f y k) e ∙ ap (λ (j : ℕ). f m j) d
