@@ -25,7 +25,7 @@ use Rattle.signer.proofs.Entries.{taken, key_answered}
 use Rattle.texts.specs.Bits.{text_row}
 use Rattle.texts.specs.SignatureLines.{signature_of, LinesOf, SignatureRead}
 use Rattle.texts.specs.declared.command.Command.{Command}
-use Rattle.texts.specs.declared.command.Command.TheVariants.{Store, Levels, Root, Sign, Look}
+use Rattle.texts.specs.declared.command.Command.TheVariants.{Store, Levels, Root, Sign, Look, Power, Slot, State}
 use Rattle.texts.specs.declared.signature.ReadSignature.{ReadSignature}
 use Rattle.texts.specs.declared.signature.SignatureLines.{SignatureLines}
 use Rattle.sessions.specs.Replies.{sign_spelled, look_spelled}
@@ -95,3 +95,6 @@ promised h s (Sign x) t o a = λ i e.
     (subst (λ (cs : List ℕ). Says o cs) text a, signs h s (vec_items x) i e)
 promised h s (Look r x) t o a = λ e.
     looked h s (value_of r) (vec_items x) t a.0 a.1 (says_same o _ _ a.2 e)
+promised h s (Power k) t o a = tt
+promised h s Slot t o a = tt
+promised h s State t o a = tt

@@ -1,11 +1,12 @@
--- What a command is answered, and what it leaves of the session. For every hash h; power lasts for both writes of a `sign`. Assumes nothing: these are definitions.
-use Rattle.std.specs.Prelude.{◌≡◌, ℕ, Bool, true, ◌⊎◌, List, Some, None, Ok, Err, vec_items, string_bytes, codes, Option, Result, String, MatchOption}
+-- What a command is answered, and what it leaves of the session. For every hash h; so far power lasts for both writes of a `sign`, whatever a `power` before it says. Assumes nothing: these are definitions.
+use Rattle.std.specs.Prelude.{◌≡◌, ℕ, Bool, true, ◌⊎◌, List, [], Some, None, Ok, Err, vec_items, string_bytes, codes, Option, Result, String, MatchOption}
 use Rattle.hash.specs.Hex.{hex}
 use Rattle.hash.specs.Mix.{Mix}
 use Rattle.hash.specs.Value.{bytes_of, value_of}
 use Rattle.keys.specs.Refusals.{tree_refusal, refusal_spelled}
 use Rattle.keys.specs.declared.refusal.Refusal.{Refusal}
 use Rattle.tree.specs.Tree.{node}
+use Rattle.tree.specs.declared.own.Tree.{Tree}
 use Rattle.signatures.specs.Lines.{signature_text}
 use Rattle.signatures.specs.Rows.{LocatedCollision}
 use Rattle.signatures.specs.Signatures.{signed, accepted}
@@ -17,28 +18,38 @@ use Rattle.std.specs.declared.alloc.Global.{Global}
 use Rattle.texts.specs.Bits.{bits_of_text}
 use Rattle.texts.specs.SignatureLines.{signature_of, LinesOf, SignatureRead}
 use Rattle.texts.specs.declared.command.Command.{Command}
-use Rattle.texts.specs.declared.command.Command.TheVariants.{Store, Levels, Root, Sign, Look}
+use Rattle.texts.specs.declared.command.Command.TheVariants.{Store, Levels, Root, Sign, Look, Power, Slot, State}
 use Rattle.texts.specs.declared.signature.ReadSignature.{ReadSignature}
 use Rattle.texts.specs.declared.signature.SignatureLines.{SignatureLines}
-use Rattle.sessions.specs.Replies.{sign_spelled, look_spelled}
+use Rattle.sessions.specs.Replies.{sign_spelled, look_spelled, counts_line}
 use Rattle.sessions.specs.declared.session.Session.{Session}
 
--- the signer and the number of bits are as they were
-abbrev pub SameSettings : (before after : Session) → Type 0
-SameSettings s s₁ = s₁.tree ≡ s.tree
+-- a session has that store, that tree, and power for so many writes at the next `sign`
+abbrev pub Has : Session → List ℕ → Tree → Option ℕ → Type 0
+Has s m t p = (vec_items s.store ≡ m) × (s.tree ≡ t) × (s.power ≡ p)
 
--- what a command leaves of a session
+-- all is as it was
+abbrev pub Unchanged : (before after : Session) → Type 0
+Unchanged s s₁ = Has s₁ (vec_items s.store) s.tree s.power
+
+-- what a `sign` leaves: the store with the next key reserved where one is given, the tree as it was, and power that lasts
+abbrev pub AfterSign : (before after : Session) → Type 0
+AfterSign s s₁ = Has s₁ (stored s.tree.signer.levels (vec_items s.store) s.tree.bits 2) s.tree None
+
+-- what a command leaves of a session: for how many writes power lasts is changed by `power` and `sign` alone
 abbrev pub Executed : Session → Command → Session → Type 0
-Executed s (Store v) s₁ = (vec_items s₁.store ≡ vec_items v) × SameSettings s s₁
-Executed s (Levels t) s₁ = (s₁.tree ≡ t) × (vec_items s₁.store ≡ vec_items s.store)
-Executed s Root s₁ = (vec_items s₁.store ≡ vec_items s.store) × SameSettings s s₁
-Executed s (Sign t) s₁ = (vec_items s₁.store ≡ stored s.tree.signer.levels (vec_items s.store) s.tree.bits 2) × SameSettings s s₁
-Executed s (Look r t) s₁ = (vec_items s₁.store ≡ vec_items s.store) × SameSettings s s₁
+Executed s (Store v) s₁ = Has s₁ (vec_items v) s.tree s.power
+Executed s (Levels t) s₁ = Has s₁ (vec_items s.store) t s.power
+Executed s Root s₁ = Unchanged s s₁
+Executed s (Sign t) s₁ = AfterSign s s₁
+Executed s (Look r t) s₁ = Unchanged s s₁
+Executed s (Power k) s₁ = Has s₁ (vec_items s.store) s.tree (Some k)
+Executed s Slot s₁ = Unchanged s s₁
+Executed s State s₁ = Unchanged s s₁
 
--- where memory fails: the store is as it was, or the next key was reserved and stays so; the settings are as they were
+-- where memory fails: all is as it was, or what a `sign` leaves, so a key that was reserved stays so
 abbrev pub Failed : (before after : Session) → Type 0
-Failed s s₁ =
-    ((vec_items s₁.store ≡ vec_items s.store) ⊎ (vec_items s₁.store ≡ stored s.tree.signer.levels (vec_items s.store) s.tree.bits 2)) × SameSettings s s₁
+Failed s s₁ = Unchanged s s₁ ⊎ AfterSign s s₁
 
 -- the bits of a text that the session's keys sign
 abbrev pub bits_asked : Mix → Session → (text : List ℕ) → List Bool
@@ -69,13 +80,16 @@ look_answer h s r t (Err e) = refusal_spelled e
 abbrev pub Says : Option (String Global) → List ℕ → Type 0
 Says o cs = MatchOption o ⊥ (λ s. string_bytes s ≡ cs)
 
--- what a command is answered, given the lines behind it: nothing to `store` and `levels`
+-- what a command is answered, given the lines behind it: nothing to `store`, `levels` and `power`
 abbrev pub Answered : Mix → Session → Command → SignatureLines → Option (String Global) → Type 0
 Answered h s (Store v) t o = o ≡ None
 Answered h s (Levels a) t o = o ≡ None
 Answered h s Root t o = Says o (root_answer h s)
 Answered h s (Sign x) t o = Says o (sign_answer h s (vec_items x))
 Answered h s (Look r x) t o = (g : Result ReadSignature Refusal) × SignatureRead t g × Says o (look_answer h s (value_of r) (vec_items x) g)
+Answered h s (Power k) t o = o ≡ None
+Answered h s Slot t o = Says o (counts_line (codes "slot") [])
+Answered h s State t o = Says o (counts_line (codes "store") (vec_items s.store))
 
 -- What is promised of the answers, above how they are worked out. A signature that is printed is accepted, for its text and the session's own root. And where `accepted` is printed, the lines are those of a signature that is, of every signer whose root this is, the signer's own for just these bits; or a row that looking at it hashes and one of the signer's own tree differ and hash to the same
 abbrev pub Promised : Mix → Session → Command → SignatureLines → Option (String Global) → Type 0
@@ -93,3 +107,6 @@ Promised h s (Look r x) t o =
     Says o (codes "accepted") →
     (g : ReadSignature) × LinesOf (signature_of g) t
     × ((seed l n : ℕ) → value_of r ≡ node h n seed l 0 → Own h seed l n s.tree.signer.levels bs (signature_of g) ⊎ LocatedCollision h n seed l bs (signature_of g))
+Promised h s (Power k) t o = Unit {0}
+Promised h s Slot t o = Unit {0}
+Promised h s State t o = Unit {0}

@@ -1,13 +1,14 @@
 // What is printed for each answer.
-ghost use Rattle.std.specs.Prelude.{◌≡◌, IfOk, string_bytes};
+ghost use Rattle.std.specs.Prelude.{◌≡◌, [], Some, IfOk, codes, string_bytes};
 ghost use Rattle.signatures.specs.Views.{held};
-ghost use Rattle.sessions.specs.Replies.{root_spelled, sign_spelled, look_spelled};
+ghost use Rattle.sessions.specs.Replies.{root_spelled, sign_spelled, look_spelled, counts_line};
 
 use hash::Number;
 use keys::Refusal;
 use signatures::SignatureRoom;
 use signer::Done;
 use std::alloc::{AllocError, Global};
+use std::fmt;
 
 pub fn root_text(heap: Global, root: Result<Number, Refusal>) -> Result<String, AllocError>
     ensures { IfOk result (λ s. string_bytes s ≡ root_spelled root) }
@@ -34,4 +35,33 @@ pub fn look_text(accepted: bool) -> &'static str
     ensures { result.now ≡ look_spelled accepted }
 {
     if accepted { "accepted" } else { "no" }
+}
+
+// Numbers in decimal, each after one space.
+#[derive(Clone, Copy)]
+struct SpacedCounts<'a>(&'a [u32]);
+
+impl fmt::Display for SpacedCounts<'_> {
+    ghost output = { λ s. Some (counts_line [] s.0.now) };
+
+    fn fmt<W: fmt::Write>(&self, f: &mut fmt::Formatter<W>) -> fmt::Result {
+        for count in self.0 {
+            write!(f, " {count}")?;
+        }
+        Ok(())
+    }
+}
+
+// A store, as the line that would make it.
+pub fn state_text(heap: Global, numbers: &[u32]) -> Result<String, AllocError>
+    ensures { IfOk result (λ s. string_bytes s ≡ counts_line (codes "store") numbers.now) }
+{
+    format!(in heap; "store{}", SpacedCounts(numbers))
+}
+
+// The numbers of a slot.
+pub fn slot_text(heap: Global, numbers: &[u32]) -> Result<String, AllocError>
+    ensures { IfOk result (λ s. string_bytes s ≡ counts_line (codes "slot") numbers.now) }
+{
+    format!(in heap; "slot{}", SpacedCounts(numbers))
 }

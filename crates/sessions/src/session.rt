@@ -1,5 +1,5 @@
-// What the lines of the program ask, on values: the store, the signer and its bits, and what is signed and looked at with them.
-ghost use Rattle.std.specs.Prelude.{◌≡◌, ℕ, true, ◌⊎◌, [], IfOk, string_bytes, Result, MatchResult};
+// What the lines of the program ask, on values: the store, the signer and its bits, for how many writes power lasts, and what is signed and looked at with them.
+ghost use Rattle.std.specs.Prelude.{◌≡◌, ℕ, true, ◌⊎◌, [], None, IfOk, string_bytes, Result, MatchResult};
 ghost use Rattle.hash.specs.Value.{value_of};
 ghost use Rattle.keys.specs.Refusals.{tree_refusal, Unless};
 ghost use Rattle.keys.specs.declared.refusal.Refusal.{Refusal};
@@ -13,7 +13,7 @@ ghost use Rattle.texts.specs.SignatureLines.{SignatureRead};
 ghost use Rattle.texts.specs.declared.signature.ReadSignature.{ReadSignature};
 ghost use Rattle.sessions.specs.Sessions.{bits_asked, look_answer, Executed, Failed, Answered, Promised};
 
-use crate::reply::{look_text, root_text, sign_text};
+use crate::reply::{look_text, root_text, sign_text, slot_text, state_text};
 use hash::{Number, RowHasher};
 use keys::{Refusal, Signer};
 use signatures::{SignatureRoom, SignatureView};
@@ -27,14 +27,24 @@ use tree::Tree;
 pub struct Session {
     tree: Tree,
     store: Vec<u32>,
+    // For how many writes power lasts at the next `sign`; `None`: it lasts.
+    power: Option<u64>,
     room: SignatureRoom,
 }
 
+// The slot of a store that counts. So far it is not told, and this is no number.
+fn counting_slot(store: &[u32]) -> &[u32]
+    ensures { result.now ≡ [] }
+{
+    &store[..0]
+}
+
 impl Session {
-    // No store, no levels, no bits, and the seed 0.
+    // No store, no levels, no bits, and the seed 0; power lasts.
     pub fn new(heap: Global) -> Session
         ensures store { result.store.items ≡ [] }
         ensures signer { (result.tree.signer.levels ≡ 0) × (result.tree.bits ≡ 0) × (value_of result.tree.signer.seed ≡ 0) }
+        ensures power { result.power ≡ None }
         ensures room { held result.room ≡ blank }
     {
         Session {
@@ -46,6 +56,7 @@ impl Session {
                 bits: 0,
             },
             store: Vec::new(heap),
+            power: None,
             room: SignatureRoom::new(),
         }
     }
@@ -57,19 +68,22 @@ impl Session {
         self.tree.root::<H>()
     }
 
-    // Signs a text. Where memory fails nothing is changed.
+    // Signs a text; afterwards power lasts, whatever is answered. Where memory fails nothing is changed.
     pub fn sign<H: RowHasher>(&mut self, heap: Global, text: &[u8]) -> Result<Done, AllocError>
         ensures answer { IfOk result (λ d. d ≡ answer self.old.tree.signer.levels self.old.store.items self.old.tree.bits 2) }
         ensures store { MatchResult result (λ _. self.new.store.items ≡ stored self.old.tree.signer.levels self.old.store.items self.old.tree.bits 2) (λ _. self.new.store.items ≡ self.old.store.items) }
         ensures room { MatchResult result (λ d. RoomSays H.mix (value_of self.old.tree.signer.seed) self.old.tree.signer.levels (bits_asked H.mix self.old text.now) d self.old.room self.new.room) (λ _. self.new.room ≡ self.old.room) }
         ensures accepted { IfOk result (λ d. GivenAccepted H.mix (value_of self.old.tree.signer.seed) self.old.tree.signer.levels (bits_asked H.mix self.old text.now) d self.new.room) }
+        ensures power { MatchResult result (λ _. self.new.power ≡ None) (λ _. self.new.power ≡ self.old.power) }
         ensures same { self.new.tree ≡ self.old.tree }
     {
         // No `?`, since here a refusal is one of the answers.
         if let Err(refusal) = refuse(self.tree.signer.levels, &self.store, self.tree.bits) {
+            self.power = None;
             return Ok(Done::Refused(refusal));
         }
         let bits = text_bits::<H>(heap, text, self.tree.bits)?;
+        self.power = None;
         Ok(sign::<H>(&self.tree.signer, &bits, &mut self.store, &mut self.room))
     }
 
@@ -134,6 +148,12 @@ impl Session {
                 Ok(Some(sign_text(heap, done, &self.room)?))
             }
             Command::Look(root, text) => { Ok(Some(self.look_at::<H>(heap, &root, &text, lines)?)) }
+            Command::Power(writes) => {
+                self.power = Some(writes);
+                Ok(None)
+            }
+            Command::Slot => Ok(Some(slot_text(heap, counting_slot(&self.store))?)),
+            Command::State => Ok(Some(state_text(heap, &self.store)?)),
         }
     }
 }

@@ -6,7 +6,7 @@ use Rattle.hash.specs.Value.{value_of}
 use Rattle.hash.specs.Hex.{hex}
 use Rattle.reading.specs.Spelling.{decimal_of}
 use Rattle.texts.specs.declared.command.Command.{Command}
-use Rattle.texts.specs.declared.command.Command.TheVariants.{Store, Levels, Root, Sign, Look}
+use Rattle.texts.specs.declared.command.Command.TheVariants.{Store, Levels, Root, Sign, Look, Power, Slot, State}
 
 -- a decimal below 2^64, a word, and the rest
 abbrev pub DecimalBefore : (cs word : List ℕ) → ℕ → List ℕ → Type 0
@@ -29,6 +29,9 @@ takes_lines (Levels v) = false
 takes_lines Root = false
 takes_lines (Sign t) = false
 takes_lines (Look r t) = true
+takes_lines (Power k) = false
+takes_lines Slot = false
+takes_lines State = false
 
 -- a line is a command, written out
 abbrev pub Spelled : List ℕ → Command → Type 0
@@ -37,3 +40,6 @@ Spelled cs (Levels v) = (rest : List ℕ) × (cs ≡ codes "levels " ++ rest) ×
 Spelled cs Root = cs ≡ codes "root"
 Spelled cs (Sign t) = cs ≡ codes "sign " ++ vec_items t
 Spelled cs (Look r t) = cs ≡ codes "look " ++ (hex r.bytes ++ (codes " " ++ vec_items t))
+Spelled cs (Power k) = (ds : List ℕ) × (cs ≡ codes "power " ++ ds) × (decimal_of (2 ^ 64) ds ≡ Some k)
+Spelled cs Slot = cs ≡ codes "slot"
+Spelled cs State = cs ≡ codes "state"

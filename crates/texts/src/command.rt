@@ -19,6 +19,10 @@ pub enum Command {
     Root,
     Sign(Vec<u8>),
     Look(Number, Vec<u8>),
+    // For how many writes power lasts at the next `sign`.
+    Power(u64),
+    Slot,
+    State,
 }
 
 impl Command {
@@ -76,6 +80,15 @@ pub fn read_command(heap: Global, line: &[u8]) -> Result<Option<Command>, AllocE
     }
     if let Some(text) = after(line, b"store") {
         return Ok(read_words(heap, text)?.map(Command::Store));
+    }
+    if let Some(digits) = after(line, b"power ") {
+        return Ok(read_decimal(digits).map(Command::Power));
+    }
+    if line == b"slot".as_slice() {
+        return Ok(Some(Command::Slot));
+    }
+    if line == b"state".as_slice() {
+        return Ok(Some(Command::State));
     }
     Ok((line == b"root".as_slice()).then_some(Command::Root))
 }

@@ -39,7 +39,7 @@ returns-in_ok-sign_text-in-Sign g c =
     let asked = sym c.in-Sign.is in
     let answered = subst (λ (k : Command). Answered h self k c.args.lines.now (Some c.in_ok-sign_text-in-Sign.field-0)) asked whole in
     record {
-      session = subst (λ (k : Command). Executed self k c.sign.new.self) asked (signs.store, signs.same);
+      session = subst (λ (k : Command). Executed self k c.sign.new.self) asked (signs.store, signs.same, signs.power);
       text = answered;
       promised = promised h self c.args.command c.args.lines.now (Some c.in_ok-sign_text-in-Sign.field-0) answered;
     }
@@ -53,7 +53,7 @@ returns-in_ok-look_at-in-Look g c =
     let whole = found.2 ∙ ap (λ (t : List ℕ). look_answer h self (value_of c.in-Look.root) t found.0) c.deref-in-Look.ensures.value in
     let answered = subst (λ (k : Command). Answered h self k c.args.lines.now (Some c.in_ok-look_at-in-Look.field-0)) asked (found.0, found.1, whole) in
     record {
-      session = subst (λ (k : Command). Executed self k self) asked (refl, refl);
+      session = subst (λ (k : Command). Executed self k self) asked (refl, refl, refl);
       text = answered;
       promised = promised h self c.args.command c.args.lines.now (Some c.in_ok-look_at-in-Look.field-0) answered;
     }

@@ -31,5 +31,6 @@ returns g c =
       store = with_items_is self.store c.sign.new.store (c.sign.auto.store ∙ c.deref_mut.ensures.len) ∙ (c.sign.ensures.store ∙ same_at (λ x k. stored l x k 2) lent count);
       room = subst (λ (bs : List Bool). RoomSays h s l bs c.sign.result self.room c.sign.new.room) row c.sign.ensures.room;
       accepted = subst (λ (bs : List Bool). GivenAccepted h s l bs c.sign.result c.sign.new.room) row c.sign.ensures.accepted;
+      power = refl;
       same = refl;
     }
