@@ -18,9 +18,9 @@ use Rattle.signatures.proofs.Forgeries.{own_or_located_lem}
 use Rattle.signatures.proofs.Own.{own_accepted_lem}
 use Rattle.signer.specs.Answers.{answer}
 use Rattle.signer.specs.Promises.{Own}
-use Rattle.signer.specs.Store.{next}
-use Rattle.signer.specs.declared.answer.Done.{Done}
-use Rattle.signer.specs.declared.answer.Done.TheVariants.{Key}
+use Rattle.counter.specs.Store.{next}
+use Rattle.counter.specs.declared.answer.Done.{Done}
+use Rattle.counter.specs.declared.answer.Done.TheVariants.{Key}
 use Rattle.signer.proofs.Entries.{taken, key_answered}
 use Rattle.texts.specs.Bits.{text_row}
 use Rattle.texts.specs.SignatureLines.{signature_of, LinesOf, SignatureRead}
@@ -29,7 +29,7 @@ use Rattle.texts.specs.declared.command.Command.TheVariants.{Store, Levels, Root
 use Rattle.texts.specs.declared.signature.ReadSignature.{ReadSignature}
 use Rattle.texts.specs.declared.signature.SignatureLines.{SignatureLines}
 use Rattle.sessions.specs.Replies.{sign_spelled, look_spelled}
-use Rattle.sessions.specs.Sessions.{bits_asked, look_answer, Says, Answered, Promised}
+use Rattle.sessions.specs.Sessions.{power_of, bits_asked, look_answer, Says, Answered, Promised}
 use Rattle.sessions.specs.declared.session.Session.{Session}
 
 -- a text is only one
@@ -66,19 +66,19 @@ looked h s r x t (Ok y) read e =
 looked h s r x t (Err f) read e = absurd (no_refusal f e)
 
 -- the bits that are signed are as many as were asked for
-bits_count : (h : Mix) (s : Session) (x : List ℕ) (i : ℕ) → Key i ≡ answer s.tree.signer.levels (vec_items s.store) s.tree.bits 2 → length (bits_asked h s x) ≡ s.tree.bits
+bits_count : (h : Mix) (s : Session) (x : List ℕ) (i : ℕ) → Key i ≡ answer s.tree.signer.levels (vec_items s.store) s.tree.bits (power_of s.power) → length (bits_asked h s x) ≡ s.tree.bits
 bits_count h s x i e =
-    let none = (key_answered s.tree.signer.levels (vec_items s.store) s.tree.bits 2 i e).0 in
+    let none = (key_answered s.tree.signer.levels (vec_items s.store) s.tree.bits (power_of s.power) i e).0 in
     let few = bits_taken s.tree.bits (taken s.tree.signer.levels (vec_items s.store) s.tree.bits none).3 in
     length-map-range_with_len (bit_at (bytes_of (h (text_row x)))) 0 (min s.tree.bits 256) ∙ omega (arith, few.1)
 
-signs : (h : Mix) (s : Session) (x : List ℕ) (i : ℕ) → Key i ≡ answer s.tree.signer.levels (vec_items s.store) s.tree.bits 2 →
+signs : (h : Mix) (s : Session) (x : List ℕ) (i : ℕ) → Key i ≡ answer s.tree.signer.levels (vec_items s.store) s.tree.bits (power_of s.power) →
     accepted h (node h s.tree.bits (value_of s.tree.signer.seed) s.tree.signer.levels 0) s.tree.signer.levels (bits_asked h s x) (signed h (value_of s.tree.signer.seed) s.tree.signer.levels i (bits_asked h s x)) ≡ true
 signs h s x i e =
     let l = s.tree.signer.levels in
     let seed = value_of s.tree.signer.seed in
     let bs = bits_asked h s x in
-    let k = key_answered l (vec_items s.store) s.tree.bits 2 i e in
+    let k = key_answered l (vec_items s.store) s.tree.bits (power_of s.power) i e in
     let below = ltb-true _ _ k.1 in
     subst (λ (n : ℕ). accepted h (node h n seed l 0) l bs (signed h seed l i bs) ≡ true) (bits_count h s x i e) (own_accepted_lem h seed l i bs (omega (arith, k.2, below)))
 
@@ -90,7 +90,7 @@ promised h s (Sign x) t o a = λ i e.
     let l = s.tree.signer.levels in
     let m = vec_items s.store in
     let sig : ℕ → List ℕ = λ (k : ℕ). signature_text (signed h (value_of s.tree.signer.seed) l k (bits_asked h s (vec_items x))) in
-    let next_is = (key_answered l m s.tree.bits 2 i e).2 in
+    let next_is = (key_answered l m s.tree.bits (power_of s.power) i e).2 in
     let text = ap (λ (d : Done). sign_spelled d (signed h (value_of s.tree.signer.seed) l (next m) (bits_asked h s (vec_items x)))) (sym e) ∙ ap sig (sym next_is) in
     (subst (λ (cs : List ℕ). Says o cs) text a, signs h s (vec_items x) i e)
 promised h s (Look r x) t o a = λ e.

@@ -8,8 +8,8 @@ use Rattle.keys.specs.Refusals.{refusal_spelled}
 use Rattle.keys.specs.declared.refusal.Refusal.{Refusal}
 use Rattle.signatures.specs.Lines.{signature_text}
 use Rattle.signatures.specs.Signatures.{Signature}
-use Rattle.signer.specs.declared.answer.Done.{Done}
-use Rattle.signer.specs.declared.answer.Done.TheVariants.{Key, Cut, Empty, Refused}
+use Rattle.counter.specs.declared.answer.Done.{Done}
+use Rattle.counter.specs.declared.answer.Done.TheVariants.{Key, Cut, Empty, Refused}
 
 -- the answer to `root`
 abbrev pub root_spelled : Result Number Refusal → List ℕ

@@ -1,5 +1,6 @@
--- What a command is answered, and what it leaves of the session. For every hash h; so far power lasts for both writes of a `sign`, whatever a `power` before it says. Assumes nothing: these are definitions.
-use Rattle.std.specs.Prelude.{◌≡◌, ℕ, Bool, true, ◌⊎◌, List, [], Some, None, Ok, Err, vec_items, string_bytes, codes, Option, Result, String, MatchOption}
+-- What a command is answered, and what it leaves of the session. For every hash h. Assumes nothing: these are definitions.
+use Rattle.std.specs.Prelude.{◌≡◌, ℕ, Bool, true, ◌⊎◌, List, Some, None, Ok, Err, vec_items, string_bytes, codes, Option, Result, String, MatchOption}
+use Rattle.std.specs.Option.{unwrap_or}
 use Rattle.hash.specs.Hex.{hex}
 use Rattle.hash.specs.Mix.{Mix}
 use Rattle.hash.specs.Value.{bytes_of, value_of}
@@ -12,8 +13,8 @@ use Rattle.signatures.specs.Rows.{LocatedCollision}
 use Rattle.signatures.specs.Signatures.{signed, accepted}
 use Rattle.signer.specs.Answers.{answer, stored}
 use Rattle.signer.specs.Promises.{Own}
-use Rattle.signer.specs.Store.{next}
-use Rattle.signer.specs.declared.answer.Done.TheVariants.{Key}
+use Rattle.counter.specs.Store.{next, counting}
+use Rattle.counter.specs.declared.answer.Done.TheVariants.{Key}
 use Rattle.std.specs.declared.alloc.Global.{Global}
 use Rattle.texts.specs.Bits.{bits_of_text}
 use Rattle.texts.specs.SignatureLines.{signature_of, LinesOf, SignatureRead}
@@ -28,13 +29,17 @@ use Rattle.sessions.specs.declared.session.Session.{Session}
 abbrev pub Has : Session → List ℕ → Tree → Option ℕ → Type 0
 Has s m t p = (vec_items s.store ≡ m) × (s.tree ≡ t) × (s.power ≡ p)
 
+-- for how many writes power lasts at a `sign`: as many as was said, or else as many as a number of the program can say, which is more than any `sign` makes
+abbrev pub power_of : Option ℕ → ℕ
+power_of p = unwrap_or p 18446744073709551615
+
 -- all is as it was
 abbrev pub Unchanged : (before after : Session) → Type 0
 Unchanged s s₁ = Has s₁ (vec_items s.store) s.tree s.power
 
 -- what a `sign` leaves: the store with the next key reserved where one is given, the tree as it was, and power that lasts
 abbrev pub AfterSign : (before after : Session) → Type 0
-AfterSign s s₁ = Has s₁ (stored s.tree.signer.levels (vec_items s.store) s.tree.bits 2) s.tree None
+AfterSign s s₁ = Has s₁ (stored s.tree.signer.levels (vec_items s.store) s.tree.bits (power_of s.power)) s.tree None
 
 -- what a command leaves of a session: for how many writes power lasts is changed by `power` and `sign` alone
 abbrev pub Executed : Session → Command → Session → Type 0
@@ -68,7 +73,7 @@ root_answer h s =
 -- the answer to `sign`: the signature is by the next key
 abbrev pub sign_answer : Mix → Session → (text : List ℕ) → List ℕ
 sign_answer h s t =
-    sign_spelled (answer s.tree.signer.levels (vec_items s.store) s.tree.bits 2)
+    sign_spelled (answer s.tree.signer.levels (vec_items s.store) s.tree.bits (power_of s.power))
     (signed h (value_of s.tree.signer.seed) s.tree.signer.levels (next (vec_items s.store)) (bits_asked h s t))
 
 -- the answer to `look`, by what was read of the lines behind it
@@ -88,7 +93,7 @@ Answered h s Root t o = Says o (root_answer h s)
 Answered h s (Sign x) t o = Says o (sign_answer h s (vec_items x))
 Answered h s (Look r x) t o = (g : Result ReadSignature Refusal) × SignatureRead t g × Says o (look_answer h s (value_of r) (vec_items x) g)
 Answered h s (Power k) t o = o ≡ None
-Answered h s Slot t o = Says o (counts_line (codes "slot") [])
+Answered h s Slot t o = Says o (counts_line (codes "slot") (counting (vec_items s.store)))
 Answered h s State t o = Says o (counts_line (codes "store") (vec_items s.store))
 
 -- What is promised of the answers, above how they are worked out. A signature that is printed is accepted, for its text and the session's own root. And where `accepted` is printed, the lines are those of a signature that is, of every signer whose root this is, the signer's own for just these bits; or a row that looking at it hashes and one of the signer's own tree differ and hash to the same
@@ -100,7 +105,7 @@ Promised h s (Sign x) t o =
     let seed = value_of s.tree.signer.seed in
     let l = s.tree.signer.levels in
     let bs = bits_asked h s (vec_items x) in
-    (i : ℕ) → Key i ≡ answer l (vec_items s.store) s.tree.bits 2 →
+    (i : ℕ) → Key i ≡ answer l (vec_items s.store) s.tree.bits (power_of s.power) →
     Says o (signature_text (signed h seed l i bs)) × (accepted h (node h s.tree.bits seed l 0) l bs (signed h seed l i bs) ≡ true)
 Promised h s (Look r x) t o =
     let bs = bits_asked h s (vec_items x) in

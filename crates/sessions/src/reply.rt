@@ -3,10 +3,10 @@ ghost use Rattle.std.specs.Prelude.{◌≡◌, [], Some, IfOk, codes, string_byt
 ghost use Rattle.signatures.specs.Views.{held};
 ghost use Rattle.sessions.specs.Replies.{root_spelled, sign_spelled, look_spelled, counts_line};
 
+use counter::Done;
 use hash::Number;
 use keys::Refusal;
 use signatures::SignatureRoom;
-use signer::Done;
 use std::alloc::{AllocError, Global};
 use std::fmt;
 

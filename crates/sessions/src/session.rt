@@ -11,13 +11,14 @@ ghost use Rattle.signer.specs.Answers.{answer, stored, RoomSays, GivenAccepted};
 ghost use Rattle.signer.specs.Promises.{Own};
 ghost use Rattle.texts.specs.SignatureLines.{SignatureRead};
 ghost use Rattle.texts.specs.declared.signature.ReadSignature.{ReadSignature};
-ghost use Rattle.sessions.specs.Sessions.{bits_asked, look_answer, Executed, Failed, Answered, Promised};
+ghost use Rattle.sessions.specs.Sessions.{bits_asked, power_of, look_answer, Executed, Failed, Answered, Promised};
 
 use crate::reply::{look_text, root_text, sign_text, slot_text, state_text};
+use counter::{Done, slot};
 use hash::{Number, RowHasher};
 use keys::{Refusal, Signer};
 use signatures::{SignatureRoom, SignatureView};
-use signer::{Done, look, refuse, sign};
+use signer::{look, refuse, sign};
 use std::alloc::{AllocError, Global};
 use texts::{Command, ReadError, SignatureLines, text_bits};
 use tree::Tree;
@@ -30,13 +31,6 @@ pub struct Session {
     // For how many writes power lasts at the next `sign`; `None`: it lasts.
     power: Option<u64>,
     room: SignatureRoom,
-}
-
-// The slot of a store that counts. So far it is not told, and this is no number.
-fn counting_slot(store: &[u32]) -> &[u32]
-    ensures { result.now ≡ [] }
-{
-    &store[..0]
 }
 
 impl Session {
@@ -68,10 +62,10 @@ impl Session {
         self.tree.root::<H>()
     }
 
-    // Signs a text; afterwards power lasts, whatever is answered. Where memory fails nothing is changed.
+    // Signs a text, with power for as many writes as was said; afterwards power lasts, whatever is answered. Where memory fails nothing is changed.
     pub fn sign<H: RowHasher>(&mut self, heap: Global, text: &[u8]) -> Result<Done, AllocError>
-        ensures answer { IfOk result (λ d. d ≡ answer self.old.tree.signer.levels self.old.store.items self.old.tree.bits 2) }
-        ensures store { MatchResult result (λ _. self.new.store.items ≡ stored self.old.tree.signer.levels self.old.store.items self.old.tree.bits 2) (λ _. self.new.store.items ≡ self.old.store.items) }
+        ensures answer { IfOk result (λ d. d ≡ answer self.old.tree.signer.levels self.old.store.items self.old.tree.bits (power_of self.old.power)) }
+        ensures store { MatchResult result (λ _. self.new.store.items ≡ stored self.old.tree.signer.levels self.old.store.items self.old.tree.bits (power_of self.old.power)) (λ _. self.new.store.items ≡ self.old.store.items) }
         ensures room { MatchResult result (λ d. RoomSays H.mix (value_of self.old.tree.signer.seed) self.old.tree.signer.levels (bits_asked H.mix self.old text.now) d self.old.room self.new.room) (λ _. self.new.room ≡ self.old.room) }
         ensures accepted { IfOk result (λ d. GivenAccepted H.mix (value_of self.old.tree.signer.seed) self.old.tree.signer.levels (bits_asked H.mix self.old text.now) d self.new.room) }
         ensures power { MatchResult result (λ _. self.new.power ≡ None) (λ _. self.new.power ≡ self.old.power) }
@@ -83,8 +77,15 @@ impl Session {
             return Ok(Done::Refused(refusal));
         }
         let bits = text_bits::<H>(heap, text, self.tree.bits)?;
+        let lasts = self.power.unwrap_or(u64::MAX);
         self.power = None;
-        Ok(sign::<H>(&self.tree.signer, &bits, &mut self.store, &mut self.room))
+        Ok(sign::<H>(
+            &self.tree.signer,
+            &bits,
+            &mut self.store,
+            lasts,
+            &mut self.room,
+        ))
     }
 
     // Looks at a signature of a text. If it is accepted, then of every signer whose root this is it is that signer's own, or two rows are shown that hash to the same.
@@ -152,7 +153,7 @@ impl Session {
                 self.power = Some(writes);
                 Ok(None)
             }
-            Command::Slot => Ok(Some(slot_text(heap, counting_slot(&self.store))?)),
+            Command::Slot => Ok(Some(slot_text(heap, slot(&self.store))?)),
             Command::State => Ok(Some(state_text(heap, &self.store)?)),
         }
     }

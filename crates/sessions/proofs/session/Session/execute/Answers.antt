@@ -7,24 +7,24 @@ use Rattle.signatures.specs.Signatures.{signed}
 use Rattle.signatures.specs.Views.{held}
 use Rattle.signatures.specs.declared.room.SignatureRoom.{SignatureRoom}
 use Rattle.signer.specs.Answers.{answer, RoomSays}
-use Rattle.signer.specs.Store.{next}
-use Rattle.signer.specs.declared.answer.Done.{Done}
-use Rattle.signer.specs.declared.answer.Done.TheVariants.{Key, Cut, Empty, Refused}
+use Rattle.counter.specs.Store.{next}
+use Rattle.counter.specs.declared.answer.Done.{Done}
+use Rattle.counter.specs.declared.answer.Done.TheVariants.{Key, Cut, Empty, Refused}
 use Rattle.signer.proofs.Entries.{key_answered}
 use Rattle.texts.specs.Bits.{bits_of_text}
 use Rattle.texts.specs.declared.command.Command.{Command}
 use Rattle.sessions.specs.Replies.{sign_spelled}
-use Rattle.sessions.specs.Sessions.{look_answer, Executed, Answered}
+use Rattle.sessions.specs.Sessions.{power_of, look_answer, Executed, Answered}
 use Rattle.sessions.proofs.Promised.{promised}
 use Rattle.sessions.proofs.session.Session.execute.Goals as goal
 
-spelled : (h : Mix) (s l n : ℕ) (m : List ℕ) (bs : List Bool) (d : Done) (r r₁ : SignatureRoom) → d ≡ answer l m n 2 → RoomSays h s l bs d r r₁ →
-    sign_spelled d (held r₁) ≡ sign_spelled (answer l m n 2) (signed h s l (next m) bs)
-spelled h s l n m bs (Key i) r r₁ e made =
-    ap signature_text (made.0 ∙ ap (λ (k : ℕ). signed h s l k bs) (key_answered l m n 2 i e).2) ∙ ap (λ (d : Done). sign_spelled d (signed h s l (next m) bs)) e
-spelled h s l n m bs Cut r r₁ e same = ap (λ (d : Done). sign_spelled d (signed h s l (next m) bs)) e
-spelled h s l n m bs Empty r r₁ e same = ap (λ (d : Done). sign_spelled d (signed h s l (next m) bs)) e
-spelled h s l n m bs (Refused x) r r₁ e same = ap (λ (d : Done). sign_spelled d (signed h s l (next m) bs)) e
+spelled : (h : Mix) (s l n w : ℕ) (m : List ℕ) (bs : List Bool) (d : Done) (r r₁ : SignatureRoom) → d ≡ answer l m n w → RoomSays h s l bs d r r₁ →
+    sign_spelled d (held r₁) ≡ sign_spelled (answer l m n w) (signed h s l (next m) bs)
+spelled h s l n w m bs (Key i) r r₁ e made =
+    ap signature_text (made.0 ∙ ap (λ (k : ℕ). signed h s l k bs) (key_answered l m n w i e).2) ∙ ap (λ (d : Done). sign_spelled d (signed h s l (next m) bs)) e
+spelled h s l n w m bs Cut r r₁ e same = ap (λ (d : Done). sign_spelled d (signed h s l (next m) bs)) e
+spelled h s l n w m bs Empty r r₁ e same = ap (λ (d : Done). sign_spelled d (signed h s l (next m) bs)) e
+spelled h s l n w m bs (Refused x) r r₁ e same = ap (λ (d : Done). sign_spelled d (signed h s l (next m) bs)) e
 
 pub returns-in_ok-sign_text-in-Sign : goal.returns-in_ok-sign_text-in-Sign
 returns-in_ok-sign_text-in-Sign g c =
@@ -34,8 +34,8 @@ returns-in_ok-sign_text-in-Sign g c =
     let l = self.tree.signer.levels in
     let m = vec_items self.store in
     let signs = c.in_ok-done-in-Sign.ensures in
-    let text = c.in_ok-sign_text-in-Sign.ensures ∙ spelled h s l self.tree.bits m (bits_of_text h c.deref.result.now self.tree.bits) c.in_ok-done-in-Sign.done self.room c.sign.new.self.room signs.answer signs.room in
-    let whole = text ∙ ap (λ (t : List ℕ). sign_spelled (answer l m self.tree.bits 2) (signed h s l (next m) (bits_of_text h t self.tree.bits))) c.deref.ensures.value in
+    let text = c.in_ok-sign_text-in-Sign.ensures ∙ spelled h s l self.tree.bits (power_of self.power) m (bits_of_text h c.deref.result.now self.tree.bits) c.in_ok-done-in-Sign.done self.room c.sign.new.self.room signs.answer signs.room in
+    let whole = text ∙ ap (λ (t : List ℕ). sign_spelled (answer l m self.tree.bits (power_of self.power)) (signed h s l (next m) (bits_of_text h t self.tree.bits))) c.deref.ensures.value in
     let asked = sym c.in-Sign.is in
     let answered = subst (λ (k : Command). Answered h self k c.args.lines.now (Some c.in_ok-sign_text-in-Sign.field-0)) asked whole in
     record {

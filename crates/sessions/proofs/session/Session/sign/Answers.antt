@@ -9,8 +9,8 @@ use Rattle.signer.proofs.Entries.{taken}
 use Rattle.texts.specs.Bits.{text_row}
 use Rattle.sessions.proofs.session.Session.sign.Goals as goal
 
-same_at : {A : Type 0} (f : List ℕ → ℕ → A) {x m : List ℕ} {k n : ℕ} → x ≡ m → k ≡ n → f x k ≡ f m n
-same_at f {x} {m} {k} {n} e d = ap (λ (y : List ℕ). f y k) e ∙ ap (λ (j : ℕ). f m j) d
+same_at : {A : Type 0} (f : List ℕ → ℕ → ℕ → A) {x m : List ℕ} {k n v w : ℕ} → x ≡ m → k ≡ n → v ≡ w → f x k v ≡ f m n w
+same_at f {x} {m} {k} {n} {v} {w} e d b = ap (λ (y : List ℕ). f y k v) e ∙ (ap (λ (j : ℕ). f m j v) d ∙ ap (λ (j : ℕ). f m n j) b)
 
 pub returns : goal.returns
 returns g c =
@@ -27,8 +27,8 @@ returns g c =
     ap (λ (bs : List Bool). length bs) row ∙ (length-map-range_with_len (bit_at (bytes_of (h (text_row c.args.text.now)))) 0 (min n 256) ∙ omega (arith, few.1)) in
     let lent = c.deref_mut.ensures.value in
     record {
-      answer = c.sign.ensures.answer ∙ same_at (λ x k. answer l x k 2) lent count;
-      store = with_items_is self.store c.sign.new.store (c.sign.auto.store ∙ c.deref_mut.ensures.len) ∙ (c.sign.ensures.store ∙ same_at (λ x k. stored l x k 2) lent count);
+      answer = c.sign.ensures.answer ∙ same_at (answer l) lent count c.unwrap_or-lasts.ensures;
+      store = with_items_is self.store c.sign.new.store (c.sign.auto.store ∙ c.deref_mut.ensures.len) ∙ (c.sign.ensures.store ∙ same_at (stored l) lent count c.unwrap_or-lasts.ensures);
       room = subst (λ (bs : List Bool). RoomSays h s l bs c.sign.result self.room c.sign.new.room) row c.sign.ensures.room;
       accepted = subst (λ (bs : List Bool). GivenAccepted h s l bs c.sign.result c.sign.new.room) row c.sign.ensures.accepted;
       power = refl;
