@@ -50,14 +50,62 @@ struct Case {
 }
 
 const CASES: [Case; 8] = [
-    Case { store: [0, 3, 0, 3], lasts: 9, done: Done::Key(0), writes: &[(0, 1), (1, 10)], left: [1, 10, 0, 3] },
-    Case { store: [1, 10, 0, 3], lasts: 9, done: Done::Key(1), writes: &[(2, 2), (3, 17)], left: [1, 10, 2, 17] },
-    Case { store: [4, 31, 5, 38], lasts: 0, done: Done::Cut, writes: &[], left: [4, 31, 5, 38] },
-    Case { store: [4, 31, 5, 38], lasts: 1, done: Done::Cut, writes: &[(0, 6)], left: [6, 31, 5, 38] },
-    Case { store: [6, 31, 5, 38], lasts: 1, done: Done::Cut, writes: &[(0, 6)], left: [6, 31, 5, 38] },
-    Case { store: [6, 31, 5, 38], lasts: 2, done: Done::Key(5), writes: &[(0, 6), (1, 45)], left: [6, 45, 5, 38] },
-    Case { store: [8, 59, 8, 59], lasts: 9, done: Done::Empty, writes: &[], left: [8, 59, 8, 59] },
-    Case { store: [6, 31, 5, 39], lasts: 9, done: Done::Refused(keys::Refusal::Store(0)), writes: &[], left: [6, 31, 5, 39] },
+    Case {
+        store: [0, 3, 0, 3],
+        lasts: 9,
+        done: Done::Key(0),
+        writes: &[(0, 1), (1, 10)],
+        left: [1, 10, 0, 3],
+    },
+    Case {
+        store: [1, 10, 0, 3],
+        lasts: 9,
+        done: Done::Key(1),
+        writes: &[(2, 2), (3, 17)],
+        left: [1, 10, 2, 17],
+    },
+    Case {
+        store: [4, 31, 5, 38],
+        lasts: 0,
+        done: Done::Cut,
+        writes: &[],
+        left: [4, 31, 5, 38],
+    },
+    Case {
+        store: [4, 31, 5, 38],
+        lasts: 1,
+        done: Done::Cut,
+        writes: &[(0, 6)],
+        left: [6, 31, 5, 38],
+    },
+    Case {
+        store: [6, 31, 5, 38],
+        lasts: 1,
+        done: Done::Cut,
+        writes: &[(0, 6)],
+        left: [6, 31, 5, 38],
+    },
+    Case {
+        store: [6, 31, 5, 38],
+        lasts: 2,
+        done: Done::Key(5),
+        writes: &[(0, 6), (1, 45)],
+        left: [6, 45, 5, 38],
+    },
+    Case {
+        store: [8, 59, 8, 59],
+        lasts: 9,
+        done: Done::Empty,
+        writes: &[],
+        left: [8, 59, 8, 59],
+    },
+    Case {
+        store: [6, 31, 5, 39],
+        lasts: 9,
+        done: Done::Refused(keys::Refusal::Store(0)),
+        writes: &[],
+        left: [6, 31, 5, 39],
+    },
 ];
 
 #[test]
@@ -69,7 +117,11 @@ fn writes_in_their_order(rt: HostRuntime) -> Result<(), Fail> {
             lasts: case.lasts,
         };
         assert_eq!(rt; reserve_in(3, &mut device), case.done);
-        let made: Vec<(usize, u32)> = device.made.iter().map(|write| (write.place, write.value)).collect(rt.alloc())?;
+        let made: Vec<(usize, u32)> = device
+            .made
+            .iter()
+            .map(|write| (write.place, write.value))
+            .collect(rt.alloc())?;
         assert_eq!(rt; made.as_slice(), case.writes);
         assert_eq!(rt; device.numbers.as_slice(), case.left.as_slice());
     }
