@@ -1,10 +1,20 @@
 -- What a request has passed that is not refused, and where a key is answered; and a key that is asked for alone.
-use Rattle.std.proofs.Common.{◌≡◌, ℕ, ◌≤◌, true, ltb, List, Some, None, Option, refl, ap, arith}
+use Rattle.std.proofs.Common.{◌≡◌, ◌∙◌, Bool, Ok, length, ℕ, ◌≤◌, true, ltb, List, Some, None, Option, refl, ap, arith}
+use Rattle.std.specs.Prelude.{⊤}
+use Rattle.hash.specs.Mix.{Mix}
+use Rattle.keys.proofs.Refused.{unrefused}
+use Rattle.signatures.specs.Signatures.{Signature, signed, accepted}
+use Rattle.signatures.specs.Views.{held, MadeIn}
+use Rattle.signatures.specs.declared.room.SignatureRoom.{SignatureRoom}
+use Rattle.signatures.proofs.Own.{own_accepted_lem}
+use Rattle.counter.proofs.Powered.{given_below}
+use Rattle.counter.specs.Reserving.{ForPower, Asked}
+use Rattle.counter.specs.declared.write.Write.{Write}
 use Rattle.std.proofs.lemmas.Bool.Decides.{nat_tests}
-use Rattle.keys.specs.Refusals.{first, levels_refusal, bits_refusal}
+use Rattle.keys.specs.Refusals.{first, levels_refusal, bits_refusal, tree_refusal, Unless}
 use Rattle.keys.specs.declared.refusal.Refusal.{Refusal}
-use Rattle.tree.specs.Tree.{power}
-use Rattle.counter.specs.Answers.{reserve_refusal, unrefused, unless_refused}
+use Rattle.tree.specs.Tree.{power, node}
+use Rattle.counter.specs.Answers.{reserve_refusal, unrefused as answer_by, unless_refused}
 use Rattle.counter.specs.Store.{next, sound, step}
 use Rattle.counter.specs.declared.answer.Done.TheVariants.{Key}
 use Rattle.signer.specs.Answers.{refusal, answer}
@@ -26,4 +36,12 @@ first_none None = refl
 pub reserve_as_sign_lem : ReserveAsSign
 reserve_as_sign_lem l w m =
     let e = first_none (reserve_refusal l m) in
-    (ap (λ (o : Option Refusal). unrefused l m w o) e, ap (λ (o : Option Refusal). unless_refused o m (step l m w)) e)
+    (ap (λ (o : Option Refusal). answer_by l m w o) e, ap (λ (o : Option Refusal). unless_refused o m (step l m w)) e)
+
+-- a signature that was made with a key that was given is accepted
+pub made_accepted : (h : Mix) (s l key : ℕ) (bs : List Bool) (r r₁ : SignatureRoom) (k : Option ℕ) (o : Option Refusal) (m m₁ : List ℕ) (ws ws₁ : List Write) →
+    Unless {T = ⊤} (tree_refusal l (length bs)) (Ok tt) (λ _. MadeIn (signed h s l key bs) r r₁) → ForPower k (Asked o l m (Key key) ws ws₁ m₁) →
+    accepted h (node h (length bs) s l 0) l bs (held r₁) ≡ true
+made_accepted h s l key bs r r₁ k o m m₁ ws ws₁ u a =
+    let made = (unrefused {T = ⊤} (tree_refusal l (length bs)) tt (λ _. MadeIn (signed h s l key bs) r r₁) u).1 in
+    ap (λ (x : Signature). accepted h (node h (length bs) s l 0) l bs x) made.0 ∙ own_accepted_lem h s l key bs (given_below k o l m key ws ws₁ m₁ a)

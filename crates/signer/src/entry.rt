@@ -24,6 +24,7 @@ pub fn refuse(levels: u64, store: &[u32], bits: u64) -> Result<(), Refusal>
 }
 
 // Signs a row of bits with the next key of the store in the cells, in the room. The key is reserved here, and nothing of the signature is made before both numbers of its slot are written: where power fails the room is as it was.
+#[tactic(auto, using(counter::proofs::Powered::refused_asked))]
 pub fn sign_in<H: RowHasher, C: Cells>(
     signer: &Signer,
     bits: &[bool],
@@ -39,13 +40,15 @@ pub fn sign_in<H: RowHasher, C: Cells>(
     if let Err(refusal) = refuse(signer.levels, cells.numbers(), bits.len() as u64) {
         return Done::Refused(refusal);
     }
-    match reserve_in(signer.levels, cells) {
-        Done::Key(key) => match sign_with::<H>(signer, key, bits, room) {
-            Ok(()) => Done::Key(key),
-            // What would be refused here was refused above.
-            Err(refusal) => Done::Refused(refusal),
-        },
-        done => done,
+    let done = reserve_in(signer.levels, cells);
+    let Done::Key(key) = done else {
+        return done;
+    };
+    let made = sign_with::<H>(signer, key, bits, room);
+    match made {
+        Ok(()) => done,
+        // What would be refused here was refused above.
+        Err(refusal) => Done::Refused(refusal),
     }
 }
 
