@@ -1,5 +1,6 @@
 -- The lemmas of this crate.
 pub mod Counting
+pub mod Counts
 pub mod Kept
 pub mod Powered
 mod Walks

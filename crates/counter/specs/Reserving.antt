@@ -1,9 +1,10 @@
 -- What reserving does to cells, whichever they are: with power for some number of writes, the answer, the writes that were added, in their order, and what the cells hold. Assumes nothing: these are definitions.
-use Rattle.std.specs.Prelude.{◌≡◌, ℕ, Bool, List, [], ◌++◌, take, Some, None, Option, nat_le}
+use Rattle.std.specs.Prelude.{◌≡◌, ℕ, ◌+◌, ◌≤◌, Bool, true, List, [], ◌++◌, take, Some, None, Option, nat_le}
 use Rattle.keys.specs.declared.refusal.Refusal.{Refusal}
 use Rattle.counter.specs.Answers.{unrefused, unless_refused}
-use Rattle.counter.specs.Store.{reserving, reserved, step, made}
+use Rattle.counter.specs.Store.{next, reserving, reserved, sound, step, made}
 use Rattle.counter.specs.declared.answer.Done.{Done}
+use Rattle.counter.specs.declared.answer.Done.TheVariants.{Key}
 use Rattle.counter.specs.declared.write.Write.{Write}
 
 -- P holds with power for the number of writes that is known, or else for some number
@@ -22,3 +23,9 @@ pub record Asked (o : Option Refusal) (l : ℕ) (m : List ℕ) (d : Done) (befor
   pub answer : d ≡ unrefused l m w o
   pub writes : after ≡ before ++ unless_refused o [] (made l m w)
   pub held : m₁ ≡ unless_refused o m (step l m w)
+
+-- whatever power did: a sound store m stays sound as m₁, and its next key never gets smaller; and a key that is given was the next one, and is below it now
+pub record Counts (m : List ℕ) (d : Done) (m₁ : List ℕ) : Type 0 where
+  pub stays_sound : sound m ≡ true → sound m₁ ≡ true
+  pub no_smaller : sound m ≡ true → next m ≤ next m₁
+  pub given : (i : ℕ) → d ≡ Key i → (i ≡ next m) × (next m₁ ≡ i + 1)

@@ -2,7 +2,7 @@
 ghost use Rattle.std.specs.Prelude.{◌≡◌, ⊤};
 ghost use Rattle.keys.specs.Refusals.{Unless};
 ghost use Rattle.counter.specs.Answers.{reserve_refusal, reserve_answer, reserve_stored};
-ghost use Rattle.counter.specs.Reserving.{ForPower, Asked};
+ghost use Rattle.counter.specs.Reserving.{ForPower, Asked, Counts};
 ghost use Rattle.counter.specs.Store.{counting};
 
 use crate::answer::Done;
@@ -33,6 +33,7 @@ pub fn refuse_store(levels: u64, numbers: &[u32]) -> Result<(), Refusal>
 // Reserves the next key of a tree of so many levels in a store's cells.
 pub fn reserve_in<C: Cells>(levels: u64, cells: &mut C) -> Done
     ensures asked { ForPower (C.lasts cells.old) (Asked (reserve_refusal levels (C.held cells.old)) levels (C.held cells.old) result (C.writes cells.old) (C.writes cells.new) (C.held cells.new)) }
+    ensures counts { Counts (C.held cells.old) result (C.held cells.new) }
     ensures loan { C.loan cells.new ≡ C.loan cells.old }
 {
     // No `?`, since here a refusal is one of the answers.
@@ -54,6 +55,7 @@ pub fn reserve_in<C: Cells>(levels: u64, cells: &mut C) -> Done
 pub fn reserve(levels: u64, store: &mut [u32], lasts: u64) -> Done
     ensures answer { result ≡ reserve_answer levels store.old lasts }
     ensures store { store.new ≡ reserve_stored levels store.old lasts }
+    ensures counts { Counts store.old result store.new }
 {
     reserve_in(levels, &mut LentCells::new(store, lasts))
 }

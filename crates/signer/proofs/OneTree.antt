@@ -7,7 +7,8 @@ use Rattle.tree.specs.Tree.{power}
 use Rattle.signer.specs.OneTree.{Asked, sign, KeyGiven, NeverTwice}
 use Rattle.signer.specs.Runs.{Request, Issued}
 use Rattle.counter.specs.Store.{next, sound, step, gives}
-use Rattle.signer.proofs.Runs.{Steps, run, rising, step_kept}
+use Rattle.counter.proofs.Counts.{step_kept}
+use Rattle.signer.proofs.Runs.{Steps, run, rising}
 
 -- what a request gives, where the test t says that it does
 abbrev issued_if : Bool → ℕ → Request → List Issued

@@ -12,12 +12,7 @@ use Rattle.signer.specs.Answers.{refusal}
 use Rattle.signer.specs.Promises.{KeysRise, OneRow}
 use Rattle.signer.specs.Runs.{Request, Issued, answered, after, issued, given}
 use Rattle.counter.specs.Store.{next, sound, step, gives}
-use Rattle.counter.proofs.Counting.{kept}
-
--- a step keeps a store sound, its next key never falls, and it is one more where the key was given
-pub step_kept : (l : ℕ) (m : List ℕ) (w : ℕ) → sound m ≡ true →
-    (sound (step l m w) ≡ true) × (next m ≤ next (step l m w)) × (gives l m w ≡ true → next (step l m w) ≡ next m + 1)
-step_kept l m w s = grind (arith, nat_tests, kept w m s)
+use Rattle.counter.proofs.Counts.{step_kept}
 
 -- what one request gives, at most one key, and the store after it
 pub record Steps {Q : Type 0} (g : List ℕ → Q → List Issued) (t : List ℕ → Q → List ℕ) : Type 0 where

@@ -6,7 +6,7 @@ ghost use Rattle.tree.specs.Tree.{node};
 ghost use Rattle.signatures.specs.Rows.{LocatedCollision};
 ghost use Rattle.signatures.specs.Signatures.{accepted};
 ghost use Rattle.signatures.specs.Views.{viewed};
-ghost use Rattle.counter.specs.Reserving.{ForPower, Asked};
+ghost use Rattle.counter.specs.Reserving.{ForPower, Asked, Counts};
 ghost use Rattle.signer.specs.Answers.{refusal, answer, stored, RoomSays, GivenAccepted};
 ghost use Rattle.signer.specs.Promises.{Own};
 
@@ -32,6 +32,7 @@ pub fn sign_in<H: RowHasher, C: Cells>(
     room: &mut SignatureRoom,
 ) -> Done
     ensures asked { ForPower (C.lasts cells.old) (Asked (refusal signer.now.levels (C.held cells.old) (length bits.now)) signer.now.levels (C.held cells.old) result (C.writes cells.old) (C.writes cells.new) (C.held cells.new)) }
+    ensures counts { Counts (C.held cells.old) result (C.held cells.new) }
     ensures room { RoomSays H.mix (value_of signer.now.seed) signer.now.levels bits.now result room.old room.new }
     ensures accepted { GivenAccepted H.mix (value_of signer.now.seed) signer.now.levels bits.now result room.new }
     ensures loan { C.loan cells.new ≡ C.loan cells.old }
@@ -62,6 +63,7 @@ pub fn sign<H: RowHasher>(
 ) -> Done
     ensures answer { result ≡ answer signer.now.levels store.old (length bits.now) lasts }
     ensures store { store.new ≡ stored signer.now.levels store.old (length bits.now) lasts }
+    ensures counts { Counts store.old result store.new }
     ensures room { RoomSays H.mix (value_of signer.now.seed) signer.now.levels bits.now result room.old room.new }
     ensures accepted { GivenAccepted H.mix (value_of signer.now.seed) signer.now.levels bits.now result room.new }
 {
