@@ -1,9 +1,7 @@
 -- What any request leaves of the count.
-use Rattle.std.proofs.Common.{◌≡◌, ℕ, ◌+◌, ◌≤◌, true, false, ltb, leb, List, Some, None, Option, refl, sym, ◌∙◌, inl, inr, arith}
-use Rattle.std.proofs.lemmas.Bool.{cases_Bool}
+use Rattle.std.proofs.Common.{◌≡◌, ℕ, ◌+◌, ◌≤◌, true, List, Some, None, Option, refl, sym, ◌∙◌, arith}
 use Rattle.std.proofs.lemmas.Bool.Decides.{nat_tests}
 use Rattle.keys.specs.declared.refusal.Refusal.{Refusal}
-use Rattle.tree.specs.Tree.{power}
 use Rattle.counter.specs.Answers.{unrefused, unless_refused}
 use Rattle.counter.specs.Reserving.{ForPower, Asked, Counts}
 use Rattle.counter.specs.Store.{next, sound, step, gives}

@@ -1,5 +1,5 @@
 -- What a command is answered, and what it leaves of the session. For every hash h. Assumes nothing: these are definitions.
-use Rattle.std.specs.Prelude.{◌≡◌, ℕ, Bool, true, ◌⊎◌, List, Some, None, Ok, Err, vec_items, string_bytes, codes, Option, Result, String, MatchOption}
+use Rattle.std.specs.Prelude.{◌≡◌, ℕ, ◌≤◌, Bool, true, ◌⊎◌, List, Some, None, Ok, Err, vec_items, string_bytes, codes, Option, Result, String, MatchOption}
 use Rattle.std.specs.Option.{unwrap_or}
 use Rattle.hash.specs.Hex.{hex}
 use Rattle.hash.specs.Mix.{Mix}
@@ -13,7 +13,7 @@ use Rattle.signatures.specs.Rows.{LocatedCollision}
 use Rattle.signatures.specs.Signatures.{signed, accepted}
 use Rattle.signer.specs.Answers.{answer, stored}
 use Rattle.signer.specs.Promises.{Own}
-use Rattle.counter.specs.Store.{next, counting}
+use Rattle.counter.specs.Store.{next, sound, counting}
 use Rattle.counter.specs.declared.answer.Done.TheVariants.{Key}
 use Rattle.std.specs.declared.alloc.Global.{Global}
 use Rattle.texts.specs.Bits.{bits_of_text}
@@ -55,6 +55,20 @@ Executed s State s₁ = Unchanged s s₁
 -- where memory fails: all is as it was, or what a `sign` leaves, so a key that was reserved stays so
 abbrev pub Failed : (before after : Session) → Type 0
 Failed s s₁ = Unchanged s s₁ ⊎ AfterSign s s₁
+
+-- whatever a command does, and where memory fails, none but `store` puts the count back: a sound store stays sound, and its next key never gets smaller
+abbrev pub KeepsCount : (before after : List ℕ) → Type 0
+KeepsCount m m₁ = sound m ≡ true → (sound m₁ ≡ true) × (next m ≤ next m₁)
+
+abbrev pub Counted : Session → Command → Session → Type 0
+Counted s (Store v) s₁ = Unit {0}
+Counted s (Levels t) s₁ = KeepsCount (vec_items s.store) (vec_items s₁.store)
+Counted s Root s₁ = KeepsCount (vec_items s.store) (vec_items s₁.store)
+Counted s (Sign t) s₁ = KeepsCount (vec_items s.store) (vec_items s₁.store)
+Counted s (Look r t) s₁ = KeepsCount (vec_items s.store) (vec_items s₁.store)
+Counted s (Power k) s₁ = KeepsCount (vec_items s.store) (vec_items s₁.store)
+Counted s Slot s₁ = KeepsCount (vec_items s.store) (vec_items s₁.store)
+Counted s State s₁ = KeepsCount (vec_items s.store) (vec_items s₁.store)
 
 -- the bits of a text that the session's keys sign
 abbrev pub bits_asked : Mix → Session → (text : List ℕ) → List Bool

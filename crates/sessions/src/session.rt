@@ -7,11 +7,12 @@ ghost use Rattle.tree.specs.Tree.{node};
 ghost use Rattle.signatures.specs.Rows.{LocatedCollision};
 ghost use Rattle.signatures.specs.Signatures.{blank, accepted};
 ghost use Rattle.signatures.specs.Views.{viewed, held};
+ghost use Rattle.counter.specs.Reserving.{Counts};
 ghost use Rattle.signer.specs.Answers.{answer, stored, RoomSays, GivenAccepted};
 ghost use Rattle.signer.specs.Promises.{Own};
 ghost use Rattle.texts.specs.SignatureLines.{SignatureRead};
 ghost use Rattle.texts.specs.declared.signature.ReadSignature.{ReadSignature};
-ghost use Rattle.sessions.specs.Sessions.{bits_asked, power_of, look_answer, Executed, Failed, Answered, Promised};
+ghost use Rattle.sessions.specs.Sessions.{bits_asked, power_of, look_answer, Executed, Failed, Counted, Answered, Promised};
 
 use crate::reply::{look_text, root_text, sign_text, slot_text, state_text};
 use counter::{Done, slot};
@@ -66,6 +67,7 @@ impl Session {
     pub fn sign<H: RowHasher>(&mut self, heap: Global, text: &[u8]) -> Result<Done, AllocError>
         ensures answer { IfOk result (λ d. d ≡ answer self.old.tree.signer.levels self.old.store.items self.old.tree.bits (power_of self.old.power)) }
         ensures store { MatchResult result (λ _. self.new.store.items ≡ stored self.old.tree.signer.levels self.old.store.items self.old.tree.bits (power_of self.old.power)) (λ _. self.new.store.items ≡ self.old.store.items) }
+        ensures counts { IfOk result (λ d. Counts self.old.store.items d self.new.store.items) }
         ensures room { MatchResult result (λ d. RoomSays H.mix (value_of self.old.tree.signer.seed) self.old.tree.signer.levels (bits_asked H.mix self.old text.now) d self.old.room self.new.room) (λ _. self.new.room ≡ self.old.room) }
         ensures accepted { IfOk result (λ d. GivenAccepted H.mix (value_of self.old.tree.signer.seed) self.old.tree.signer.levels (bits_asked H.mix self.old text.now) d self.new.room) }
         ensures power { MatchResult result (λ _. self.new.power ≡ None) (λ _. self.new.power ≡ self.old.power) }
@@ -131,6 +133,7 @@ impl Session {
         lines: &SignatureLines,
     ) -> Result<Option<String>, AllocError>
         ensures session { MatchResult result (λ _. Executed self.old command self.new) (λ _. Failed self.old self.new) }
+        ensures counts { Counted self.old command self.new }
         ensures text { IfOk result (λ o. Answered H.mix self.old command lines.now o) }
         ensures promised { IfOk result (λ o. Promised H.mix self.old command lines.now o) }
     {

@@ -1,5 +1,5 @@
 -- What is printed is the signature by the key that is answered; what is promised follows from what is answered.
-use Rattle.std.proofs.Common.{◌≡◌, ℕ, Bool, List, Some, vec_items, sym, refl, ap, ◌∙◌, subst}
+use Rattle.std.proofs.Common.{◌≡◌, ℕ, Bool, List, Some, vec_items, sym, refl, ap, ◌∙◌, subst, arith}
 use Rattle.hash.specs.Mix.{Mix}
 use Rattle.hash.specs.Value.{value_of}
 use Rattle.signatures.specs.Lines.{signature_text}
@@ -14,7 +14,7 @@ use Rattle.signer.proofs.Entries.{key_answered}
 use Rattle.texts.specs.Bits.{bits_of_text}
 use Rattle.texts.specs.declared.command.Command.{Command}
 use Rattle.sessions.specs.Replies.{sign_spelled}
-use Rattle.sessions.specs.Sessions.{power_of, look_answer, Executed, Answered}
+use Rattle.sessions.specs.Sessions.{power_of, look_answer, Executed, Counted, Answered}
 use Rattle.sessions.proofs.Promised.{promised}
 use Rattle.sessions.proofs.session.Session.execute.Goals as goal
 
@@ -40,6 +40,7 @@ returns-in_ok-sign_text-in-Sign g c =
     let answered = subst (λ (k : Command). Answered h self k c.args.lines.now (Some c.in_ok-sign_text-in-Sign.field-0)) asked whole in
     record {
       session = subst (λ (k : Command). Executed self k c.sign.new.self) asked (signs.store, signs.same, signs.power);
+      counts = subst (λ (k : Command). Counted self k c.sign.new.self) asked (λ s. (signs.counts.stays_sound s, signs.counts.no_smaller s));
       text = answered;
       promised = promised h self c.args.command c.args.lines.now (Some c.in_ok-sign_text-in-Sign.field-0) answered;
     }
@@ -54,6 +55,7 @@ returns-in_ok-look_at-in-Look g c =
     let answered = subst (λ (k : Command). Answered h self k c.args.lines.now (Some c.in_ok-look_at-in-Look.field-0)) asked (found.0, found.1, whole) in
     record {
       session = subst (λ (k : Command). Executed self k self) asked (refl, refl, refl);
+      counts = subst (λ (k : Command). Counted self k self) asked (λ s. (s, omega arith));
       text = answered;
       promised = promised h self c.args.command c.args.lines.now (Some c.in_ok-look_at-in-Look.field-0) answered;
     }

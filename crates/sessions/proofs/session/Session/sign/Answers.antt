@@ -1,9 +1,10 @@
 -- The bits of the text are as many as were asked for, so the entry that signs answers for these.
-use Rattle.std.proofs.Common.{◌≡◌, ℕ, min, Bool, List, length, None, vec_items, refl, ap, ◌∙◌, subst, arith}
+use Rattle.std.proofs.Common.{◌≡◌, ℕ, min, Bool, List, length, None, vec_items, refl, ap, ◌∙◌, sym, subst, subst₂, arith}
 use Rattle.std.proofs.lemmas.List.FromFn.{length-map-range_with_len}
 use Rattle.std.proofs.lemmas.List.{with_items_is}
 use Rattle.hash.specs.Value.{value_of, bytes_of, bit_at}
 use Rattle.keys.proofs.Refused.{bits_taken, unrefused}
+use Rattle.counter.specs.Reserving.{Counts}
 use Rattle.signer.specs.Answers.{refusal, answer, stored, RoomSays, GivenAccepted}
 use Rattle.signer.proofs.Entries.{taken}
 use Rattle.texts.specs.Bits.{text_row}
@@ -26,9 +27,11 @@ returns g c =
     let count : length c.deref-2.result.now ≡ n =
     ap (λ (bs : List Bool). length bs) row ∙ (length-map-range_with_len (bit_at (bytes_of (h (text_row c.args.text.now)))) 0 (min n 256) ∙ omega (arith, few.1)) in
     let lent = c.deref_mut.ensures.value in
+    let back = with_items_is self.store c.sign.new.store (c.sign.auto.store ∙ c.deref_mut.ensures.len) in
     record {
       answer = c.sign.ensures.answer ∙ same_at (answer l) lent count c.unwrap_or-lasts.ensures;
-      store = with_items_is self.store c.sign.new.store (c.sign.auto.store ∙ c.deref_mut.ensures.len) ∙ (c.sign.ensures.store ∙ same_at (stored l) lent count c.unwrap_or-lasts.ensures);
+      store = back ∙ (c.sign.ensures.store ∙ same_at (stored l) lent count c.unwrap_or-lasts.ensures);
+      counts = subst₂ (λ (x y : List ℕ). Counts x c.sign.result y) lent (sym back) c.sign.ensures.counts;
       room = subst (λ (bs : List Bool). RoomSays h s l bs c.sign.result self.room c.sign.new.room) row c.sign.ensures.room;
       accepted = subst (λ (bs : List Bool). GivenAccepted h s l bs c.sign.result c.sign.new.room) row c.sign.ensures.accepted;
       power = refl;
