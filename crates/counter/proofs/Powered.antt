@@ -1,12 +1,12 @@
 -- What holds with power for the number of writes that is known, or else for some number.
-use Rattle.std.proofs.Common.{◌≡◌, ap, ◌<◌, Err, Ok, ◌∙◌, ℕ, ◌≤◌, true, false, if◌then◌else◌, ltb, Bool, List, Some, None, Option, refl, sym, arith}
+use Rattle.std.proofs.Common.{◌≡◌, ℕ, ◌<◌, ◌≤◌, Bool, true, false, if◌then◌else◌, ltb, List, Some, None, Ok, Err, Option, refl, sym, ap, ◌∙◌, arith}
 use Rattle.std.proofs.lemmas.Bool.Decides.{nat_tests}
 use Rattle.std.proofs.lemmas.List.{append-nil}
 use Rattle.std.specs.Prelude.{⊤}
+use Rattle.keys.specs.Refusals.{levels_refusal, Unless}
 use Rattle.keys.specs.declared.refusal.Refusal.{Refusal}
 use Rattle.keys.proofs.Refused.{unrefused}
 use Rattle.tree.specs.Tree.{power}
-use Rattle.keys.specs.Refusals.{levels_refusal, Unless}
 use Rattle.counter.specs.Answers.{reserve_refusal, unrefused as answer_by}
 use Rattle.counter.specs.Reserving.{ForPower, Written, Asked}
 use Rattle.counter.specs.Store.{next, sound}
@@ -14,6 +14,7 @@ use Rattle.counter.specs.declared.answer.Done.TheVariants.{Key, Cut, Empty, Refu
 use Rattle.counter.specs.declared.store.Store.{Store}
 use Rattle.counter.specs.declared.write.Write.{Write}
 
+-- from some number of writes, and from the known one
 pub by_power : (o : Option ℕ) (P : ℕ → Type 0) → (w : ℕ) × P w → ((w : ℕ) → o ≡ Some w → P w) → ForPower o P
 by_power (Some w) P s k = k w refl
 by_power None P s k = s

@@ -2,7 +2,7 @@
 ghost use Rattle.std.specs.Prelude.{◌≡◌, ℕ, ◌-◌, ◌<◌, List, ◌++◌, length, is_ok, Option, Some, nat_lt};
 ghost use Rattle.std.specs.Borrow.{GName};
 ghost use Rattle.counter.specs.Cells.{left_by, made_if};
-ghost use Rattle.counter.specs.declared.write.Write.{Write as OneWrite};
+ghost use Rattle.counter.specs.declared.write.Write.{Write};
 
 // A number was not written: power failed before it, or there is no such cell.
 #[derive(Clone, Copy)]
@@ -13,7 +13,7 @@ pub trait Cells {
     ghost held: { Self → List ℕ };
 
     // The writes that were made to them, in order.
-    ghost writes: { Self → List OneWrite };
+    ghost writes: { Self → List Write };
 
     // For how many more writes power lasts, where that is known.
     ghost lasts: { Self → Option ℕ };

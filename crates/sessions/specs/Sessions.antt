@@ -56,10 +56,11 @@ Executed s State s₁ = Unchanged s s₁
 abbrev pub Failed : (before after : Session) → Type 0
 Failed s s₁ = Unchanged s s₁ ⊎ AfterSign s s₁
 
--- whatever a command does, and where memory fails, none but `store` puts the count back: a sound store stays sound, and its next key never gets smaller
+-- the count is not put back: a sound store stays sound, and its next key never gets smaller
 abbrev pub KeepsCount : (before after : List ℕ) → Type 0
 KeepsCount m m₁ = sound m ≡ true → (sound m₁ ≡ true) × (next m ≤ next m₁)
 
+-- no command but `store` puts the count back, whatever it is answered, and also where memory fails
 abbrev pub Counted : Session → Command → Session → Type 0
 Counted s (Store v) s₁ = Unit {0}
 Counted s (Levels t) s₁ = KeepsCount (vec_items s.store) (vec_items s₁.store)

@@ -1,22 +1,22 @@
 -- What a request has passed that is not refused, and where a key is answered; and a key that is asked for alone.
-use Rattle.std.proofs.Common.{◌≡◌, ◌∙◌, Bool, Ok, length, ℕ, ◌≤◌, true, ltb, List, Some, None, Option, refl, ap, arith}
+use Rattle.std.proofs.Common.{◌≡◌, ℕ, ◌≤◌, Bool, true, ltb, List, length, Some, None, Ok, Option, refl, ap, ◌∙◌, arith}
+use Rattle.std.proofs.lemmas.Bool.Decides.{nat_tests}
 use Rattle.std.specs.Prelude.{⊤}
 use Rattle.hash.specs.Mix.{Mix}
+use Rattle.keys.specs.Refusals.{first, levels_refusal, bits_refusal, tree_refusal, Unless}
+use Rattle.keys.specs.declared.refusal.Refusal.{Refusal}
 use Rattle.keys.proofs.Refused.{unrefused}
+use Rattle.tree.specs.Tree.{power, node}
 use Rattle.signatures.specs.Signatures.{Signature, signed, accepted}
 use Rattle.signatures.specs.Views.{held, MadeIn}
 use Rattle.signatures.specs.declared.room.SignatureRoom.{SignatureRoom}
 use Rattle.signatures.proofs.Own.{own_accepted_lem}
-use Rattle.counter.proofs.Powered.{given_below}
-use Rattle.counter.specs.Reserving.{ForPower, Asked}
-use Rattle.counter.specs.declared.write.Write.{Write}
-use Rattle.std.proofs.lemmas.Bool.Decides.{nat_tests}
-use Rattle.keys.specs.Refusals.{first, levels_refusal, bits_refusal, tree_refusal, Unless}
-use Rattle.keys.specs.declared.refusal.Refusal.{Refusal}
-use Rattle.tree.specs.Tree.{power, node}
 use Rattle.counter.specs.Answers.{reserve_refusal, unrefused as answer_by, unless_refused}
+use Rattle.counter.specs.Reserving.{ForPower, Asked}
 use Rattle.counter.specs.Store.{next, sound, step}
 use Rattle.counter.specs.declared.answer.Done.TheVariants.{Key}
+use Rattle.counter.specs.declared.write.Write.{Write}
+use Rattle.counter.proofs.Powered.{given_below}
 use Rattle.signer.specs.Answers.{refusal, answer}
 use Rattle.signer.specs.Promises.{ReserveAsSign}
 
