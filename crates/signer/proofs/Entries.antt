@@ -14,10 +14,11 @@ use Rattle.signatures.proofs.Own.{own_accepted_lem}
 use Rattle.counter.specs.Answers.{reserve_refusal, unrefused as answer_by, unless_refused}
 use Rattle.counter.specs.Reserving.{ForPower, Asked}
 use Rattle.counter.specs.Store.{next, sound, step}
-use Rattle.counter.specs.declared.answer.Done.TheVariants.{Key}
+use Rattle.counter.specs.declared.answer.Done.{Done}
+use Rattle.counter.specs.declared.answer.Done.TheVariants.{Key, Cut, Empty, Refused}
 use Rattle.counter.specs.declared.write.Write.{Write}
 use Rattle.counter.proofs.Powered.{given_below}
-use Rattle.signer.specs.Answers.{refusal, answer}
+use Rattle.signer.specs.Answers.{refusal, answer, RoomSays}
 use Rattle.signer.specs.Promises.{ReserveAsSign}
 
 -- all that a request has passed which is not refused
@@ -37,6 +38,13 @@ pub reserve_as_sign_lem : ReserveAsSign
 reserve_as_sign_lem l w m =
     let e = first_none (reserve_refusal l m) in
     (ap (λ (o : Option Refusal). answer_by l m w o) e, ap (λ (o : Option Refusal). unless_refused o m (step l m w)) e)
+
+-- a room that is as it was, where no key is given
+pub room_kept : (h : Mix) (s l : ℕ) (bs : List Bool) (d : Done) (r : SignatureRoom) → ((i : ℕ) → d ≡ Key i → ⊥) → RoomSays h s l bs d r r
+room_kept h s l bs (Key i) r n = absurd (n i refl)
+room_kept h s l bs Cut r n = refl
+room_kept h s l bs Empty r n = refl
+room_kept h s l bs (Refused e) r n = refl
 
 -- a signature that was made with a key that was given is accepted
 pub made_accepted : (h : Mix) (s l key : ℕ) (bs : List Bool) (r r₁ : SignatureRoom) (k : Option ℕ) (o : Option Refusal) (m m₁ : List ℕ) (ws ws₁ : List Write) →
