@@ -16,6 +16,18 @@ second_written a p b q e f = grind (arith, nat_tests)
 which : (a p b q : ℕ) → sound (a ∷ p ∷ b ∷ q ∷ []) ≡ true → ((q ≡ check b) × (p ≡ check a → a ≤ b)) ⊎ ((p ≡ check a) × (q ≡ check b → b < a))
 which a p b q s = grind (arith, nat_tests)
 
+four : (m : List ℕ) → sound m ≡ true → (a : ℕ) × (p : ℕ) × (b : ℕ) × (q : ℕ) × (m ≡ a ∷ p ∷ b ∷ q ∷ [])
+four [] s = grind arith
+four (a ∷ []) s = grind arith
+four (a ∷ p ∷ []) s = grind arith
+four (a ∷ p ∷ b ∷ []) s = grind arith
+four (a ∷ p ∷ b ∷ q ∷ []) s = (a, p, b, q, refl)
+four (a ∷ p ∷ b ∷ q ∷ x ∷ xs) s = grind arith
+
+-- what holds of every sound store of four numbers holds of every sound store
+by_four : (P : List ℕ → Type 0) → ((a p b q : ℕ) → sound (a ∷ p ∷ b ∷ q ∷ []) ≡ true → P (a ∷ p ∷ b ∷ q ∷ [])) → (m : List ℕ) → sound m ≡ true → P m
+by_four P f m s = let r = four m s in rw r.4 (f r.0 r.1 r.2 r.3 (rw r.4 at s))
+
 -- what n writes of reserving leave of the store m
 abbrev pub Kept : ℕ → List ℕ → List ℕ → Type 0
 Kept n m r = (sound r ≡ true) × (next m ≤ next r) × (next r ≤ next m + 1) × (2 ≤ n → next r ≡ next m + 1)
@@ -39,12 +51,7 @@ kept_four (suc (suc n)) a p b q s =
     elim (which a p b q s) [ inl v ↦ written_first n a p b q v.0 v.1 | inr v ↦ written_second n a p b q v.0 v.1 ]
 
 pub kept : (n : ℕ) (m : List ℕ) → sound m ≡ true → Kept n m (reserved n m)
-kept n [] s = grind arith
-kept n (a ∷ []) s = grind arith
-kept n (a ∷ p ∷ []) s = grind arith
-kept n (a ∷ p ∷ b ∷ []) s = grind arith
-kept n (a ∷ p ∷ b ∷ q ∷ []) s = kept_four n a p b q s
-kept n (a ∷ p ∷ b ∷ q ∷ x ∷ xs) s = grind arith
+kept n = by_four (λ (m : List ℕ). Kept n m (reserved n m)) (kept_four n)
 
 -- a count that is one more than the next key does not have the check of a smaller one, since it is less than the modulus away
 no_match : (a b : ℕ) → a ≤ b → b < 4294967290 → check a ≡ check (b + 1) → ⊥
@@ -67,12 +74,8 @@ cut_four a p b q e f u =
 
 -- where both slots are right, a count that is written alone changes nothing
 pub cut_keeps : (m : List ℕ) → sound m ≡ true → slot_ok m 0 ≡ true → slot_ok m 1 ≡ true → next m < 4294967290 → next (reserved 1 m) ≡ next m
-cut_keeps [] s e f u = grind arith
-cut_keeps (a ∷ []) s e f u = grind arith
-cut_keeps (a ∷ p ∷ []) s e f u = grind arith
-cut_keeps (a ∷ p ∷ b ∷ []) s e f u = grind arith
-cut_keeps (a ∷ p ∷ b ∷ q ∷ []) s e f u = cut_four a p b q (grind (arith, nat_tests)) (grind (arith, nat_tests)) u
-cut_keeps (a ∷ p ∷ b ∷ q ∷ x ∷ xs) s e f u = grind arith
+cut_keeps = by_four (λ (m : List ℕ). slot_ok m 0 ≡ true → slot_ok m 1 ≡ true → next m < 4294967290 → next (reserved 1 m) ≡ next m)
+    (λ a p b q s e f u. cut_four a p b q (grind (arith, nat_tests)) (grind (arith, nat_tests)) u)
 
 -- the slot that counts holds the next key and its check
 counting_four : (a p b q : ℕ) → sound (a ∷ p ∷ b ∷ q ∷ []) ≡ true → counting (a ∷ p ∷ b ∷ q ∷ []) ≡ next (a ∷ p ∷ b ∷ q ∷ []) ∷ check (next (a ∷ p ∷ b ∷ q ∷ [])) ∷ []
@@ -89,9 +92,4 @@ counting_four a p b q s =
     ]
 
 pub counting_is : (m : List ℕ) → sound m ≡ true → counting m ≡ next m ∷ check (next m) ∷ []
-counting_is [] s = grind arith
-counting_is (a ∷ []) s = grind arith
-counting_is (a ∷ p ∷ []) s = grind arith
-counting_is (a ∷ p ∷ b ∷ []) s = grind arith
-counting_is (a ∷ p ∷ b ∷ q ∷ []) s = counting_four a p b q s
-counting_is (a ∷ p ∷ b ∷ q ∷ x ∷ xs) s = grind arith
+counting_is = by_four (λ (m : List ℕ). counting m ≡ next m ∷ check (next m) ∷ []) counting_four

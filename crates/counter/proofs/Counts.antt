@@ -20,16 +20,15 @@ given_by l w i m e = grind arith
 
 -- by the first refusal, where a store of which nothing is refused is sound
 counts_by : (o : Option Refusal) (l w : ℕ) (m : List ℕ) → (None ≡ o → sound m ≡ true) → Counts m (unrefused l m w o) (unless_refused o m (step l m w))
-counts_by (Some r) l w m f = record { stays_sound = λ s. s; no_smaller = λ _. omega arith; given = λ i e. absurd cc }
+counts_by (Some r) l w m f = record { keeps = λ s. (s, omega arith); given = λ i e. absurd cc }
 counts_by None l w m f =
     let k = step_kept l m w (f refl) in
     record {
-      stays_sound = λ _. k.0;
-      no_smaller = λ _. k.1;
+      keeps = λ _. (k.0, k.1);
       given = λ i e. let b = given_by l w i m (sym e) in (b.1, k.2 b.0 ∙ omega (arith, b.1));
     }
 
-pub asked_counts : (o : Option Refusal) (l w : ℕ) (m : List ℕ) (d : Done) (ws ws₁ : List Write) (m₁ : List ℕ) → (None ≡ o → sound m ≡ true) → Asked o l m d ws ws₁ m₁ w → Counts m d m₁
+asked_counts : (o : Option Refusal) (l w : ℕ) (m : List ℕ) (d : Done) (ws ws₁ : List Write) (m₁ : List ℕ) → (None ≡ o → sound m ≡ true) → Asked o l m d ws ws₁ m₁ w → Counts m d m₁
 asked_counts o l w m d ws ws₁ m₁ f a = rw (a.answer, a.held) (counts_by o l w m f)
 
 pub counts : (k : Option ℕ) (o : Option Refusal) (l : ℕ) (m : List ℕ) (d : Done) (ws ws₁ : List Write) (m₁ : List ℕ) → (None ≡ o → sound m ≡ true) → ForPower k (Asked o l m d ws ws₁ m₁) → Counts m d m₁

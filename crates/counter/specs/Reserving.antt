@@ -24,8 +24,11 @@ pub record Asked (o : Option Refusal) (l : ℕ) (m : List ℕ) (d : Done) (befor
   pub writes : after ≡ before ++ unless_refused o [] (made l m w)
   pub held : m₁ ≡ unless_refused o m (step l m w)
 
--- whatever power did: a sound store m stays sound as m₁, and its next key never gets smaller; and a key that is given was the next one, and is below it now
+-- the count is not put back: a sound store stays sound, and its next key never gets smaller
+abbrev pub KeepsCount : (before after : List ℕ) → Type 0
+KeepsCount m m₁ = sound m ≡ true → (sound m₁ ≡ true) × (next m ≤ next m₁)
+
+-- whatever power did: the count is not put back, and a key that is given was the next one, and is below it now
 pub record Counts (m : List ℕ) (d : Done) (m₁ : List ℕ) : Type 0 where
-  pub stays_sound : sound m ≡ true → sound m₁ ≡ true
-  pub no_smaller : sound m ≡ true → next m ≤ next m₁
+  pub keeps : KeepsCount m m₁
   pub given : (i : ℕ) → d ≡ Key i → (i ≡ next m) × (next m₁ ≡ i + 1)

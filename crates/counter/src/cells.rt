@@ -1,5 +1,5 @@
 // A store's cells, as the device that holds them: each number is written at once, and power may fail before a write.
-ghost use Rattle.std.specs.Prelude.{◌≡◌, ℕ, ◌-◌, ◌<◌, List, ◌++◌, length, is_ok, Option, Some, nat_lt};
+ghost use Rattle.std.specs.Prelude.{◌≡◌, ℕ, ◌-◌, ◌<◌, List, ◌++◌, length, is_ok, Option, Some, nat_lt, OnOk};
 ghost use Rattle.std.specs.Borrow.{GName};
 ghost use Rattle.counter.specs.Cells.{left_by, made_if};
 ghost use Rattle.counter.specs.declared.write.Write.{Write};
@@ -27,6 +27,7 @@ pub trait Cells {
     // Writes one number, or nothing.
     fn write(&mut self, place: usize, value: u32) -> Result<(), NotWritten>
         ensures held { held self.new ≡ left_by (made_if (is_ok result) place value) (held self.old) }
+        ensures there { OnOk result (place < length (held self.old)) }
         ensures writes { writes self.new ≡ writes self.old ++ made_if (is_ok result) place value }
         ensures lasts { (n : ℕ) → lasts self.old ≡ Some n → place < length (held self.old) → (is_ok result ≡ nat_lt 0 n) × (lasts self.new ≡ Some (n - 1)) }
         ensures loan { loan self.new ≡ loan self.old };

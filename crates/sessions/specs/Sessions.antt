@@ -1,5 +1,5 @@
 -- What a command is answered, and what it leaves of the session. For every hash h. Assumes nothing: these are definitions.
-use Rattle.std.specs.Prelude.{◌≡◌, ℕ, ◌≤◌, Bool, true, ◌⊎◌, List, Some, None, Ok, Err, vec_items, string_bytes, codes, Option, Result, String, MatchOption}
+use Rattle.std.specs.Prelude.{◌≡◌, ℕ, Bool, true, ◌⊎◌, List, Some, None, Ok, Err, vec_items, string_bytes, codes, Option, Result, String, MatchOption}
 use Rattle.std.specs.Option.{unwrap_or}
 use Rattle.hash.specs.Hex.{hex}
 use Rattle.hash.specs.Mix.{Mix}
@@ -13,7 +13,8 @@ use Rattle.signatures.specs.Rows.{LocatedCollision}
 use Rattle.signatures.specs.Signatures.{signed, accepted}
 use Rattle.signer.specs.Answers.{answer, stored}
 use Rattle.signer.specs.Promises.{Own}
-use Rattle.counter.specs.Store.{next, sound, counting}
+use Rattle.counter.specs.Reserving.{KeepsCount}
+use Rattle.counter.specs.Store.{next, counting}
 use Rattle.counter.specs.declared.answer.Done.TheVariants.{Key}
 use Rattle.std.specs.declared.alloc.Global.{Global}
 use Rattle.texts.specs.Bits.{bits_of_text}
@@ -56,11 +57,7 @@ Executed s State s₁ = Unchanged s s₁
 abbrev pub Failed : (before after : Session) → Type 0
 Failed s s₁ = Unchanged s s₁ ⊎ AfterSign s s₁
 
--- the count is not put back: a sound store stays sound, and its next key never gets smaller
-abbrev pub KeepsCount : (before after : List ℕ) → Type 0
-KeepsCount m m₁ = sound m ≡ true → (sound m₁ ≡ true) × (next m ≤ next m₁)
-
--- no command but `store` puts the count back, whatever it is answered, and also where memory fails
+-- no command but `store` puts the count back, whatever it is answered, and also where memory fails: a sound store stays sound, and its next key never gets smaller
 abbrev pub Counted : Session → Command → Session → Type 0
 Counted s (Store v) s₁ = Unit {0}
 Counted s (Levels t) s₁ = KeepsCount (vec_items s.store) (vec_items s₁.store)

@@ -29,13 +29,13 @@ OwnOrLocated =
 abbrev pub KeysRise : Type 0
 KeysRise = (m : List ℕ) (qs : List Request) → Rising (map (λ a. a.key) (given m qs))
 
--- a key that is asked for alone is given, and leaves the store, as if one bit were signed: so runs of requests to sign speak of such requests too
-abbrev pub ReserveAsSign : Type 0
-ReserveAsSign = (l w : ℕ) (m : List ℕ) → (reserve_answer l m w ≡ answer l m 1 w) × (reserve_stored l m w ≡ stored l m 1 w)
-
 -- so no key signs two rows of bits
 abbrev pub OneRow : Type 0
 OneRow = (m : List ℕ) (qs : List Request) (a b : Issued) → In a (given m qs) → In b (given m qs) → a.key ≡ b.key → a.request.bits ≡ b.request.bits
+
+-- a key that is asked for alone is given, and leaves the store, as if one bit were signed: so the keys of such requests rise with the others, and sign nothing else
+abbrev pub ReserveAsSign : Type 0
+ReserveAsSign = (l w : ℕ) (m : List ℕ) → (reserve_answer l m w ≡ answer l m 1 w) × (reserve_stored l m w ≡ stored l m 1 w)
 
 -- whoever shows an accepted signature that its key did not give has, in it, a secret number of the signer's that no signature given out in the run holds in any of its parts; or two rows hash to the same, one of the signer's own tree and one that looking hashes or that is the signer's too. The signer is one tree: all that it gave is for l levels and n bits
 abbrev pub MustKnowLocated : Type 0

@@ -26,16 +26,16 @@ pub fn keys_rise()
     ensures { KeysRise }
 {}
 
-// Keys that are asked for alone rise with those that sign.
-#[tactic(auto, using(crate::proofs::Entries::reserve_as_sign_lem))]
-pub fn reserve_as_sign()
-    ensures { ReserveAsSign }
-{}
-
 // Whatever is asked, no key signs two rows of bits.
 #[tactic(auto, using(crate::proofs::Runs::one_row_lem))]
 pub fn one_row()
     ensures { OneRow }
+{}
+
+// Keys that are asked for alone rise with those that sign.
+#[tactic(auto, using(crate::proofs::Entries::reserve_as_sign_lem))]
+pub fn reserve_as_sign()
+    ensures { ReserveAsSign }
 {}
 
 // The same over one tree.

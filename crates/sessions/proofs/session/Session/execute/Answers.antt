@@ -40,7 +40,7 @@ returns-in_ok-sign_text-in-Sign g c =
     let answered = subst (λ (k : Command). Answered h self k c.args.lines.now (Some c.in_ok-sign_text-in-Sign.field-0)) asked whole in
     record {
       session = subst (λ (k : Command). Executed self k c.sign.new.self) asked (signs.store, signs.same, signs.power);
-      counts = subst (λ (k : Command). Counted self k c.sign.new.self) asked (λ s. (signs.counts.stays_sound s, signs.counts.no_smaller s));
+      counts = subst (λ (k : Command). Counted self k c.sign.new.self) asked signs.counts.keeps;
       text = answered;
       promised = promised h self c.args.command c.args.lines.now (Some c.in_ok-sign_text-in-Sign.field-0) answered;
     }
