@@ -1,0 +1,30 @@
+// The next hash value, from one and a block.
+ghost use Rattle.std.specs.Prelude.{◌≡◌};
+ghost use Rattle.compression.specs.Fips180.{sums, compressed};
+
+use crate::rounds::all_rounds;
+use crate::schedule::{expand, load};
+
+fn add(v: [u32; 8], state: [u32; 8]) -> [u32; 8]
+    ensures { result ≡ sums v state }
+{
+    let [a, b, c, d, e, f, g, h] = v;
+    let [i, j, k, l, m, n, o, p] = state;
+    [
+        a.wrapping_add(i),
+        b.wrapping_add(j),
+        c.wrapping_add(k),
+        d.wrapping_add(l),
+        e.wrapping_add(m),
+        f.wrapping_add(n),
+        g.wrapping_add(o),
+        h.wrapping_add(p),
+    ]
+}
+
+pub fn compress(state: [u32; 8], block: &[u8; 64]) -> [u32; 8]
+    ensures { result ≡ compressed state block.now }
+{
+    let w = expand(load(block));
+    add(all_rounds(state, &w), state)
+}

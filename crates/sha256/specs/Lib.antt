@@ -1,0 +1,2 @@
+-- The definitions that the contracts of this crate and of those above cite.
+pub mod Rows
