@@ -1,6 +1,6 @@
 -- One turn of each loop: a word more of a block, a word more of the schedule, a round more.
-use Rattle.std.proofs.Common.{◌≡◌, ℕ, suc, ◌+◌, ◌*◌, ◌<◌, ◌≤◌, List, [], ◌∷◌, ◌++◌, length, take, slice_index, slice_set, refl, sym, ap, ◌∙◌, add-one, length-set, arith}
-use Rattle.std.proofs.lemmas.List.{take_more_set, get_or-take, take_all}
+use Rattle.std.proofs.Common.{◌≡◌, ℕ, ◌+◌, ◌*◌, ◌<◌, List, [], ◌∷◌, ◌++◌, length, take, slice_index, slice_set, refl, sym, ap, ◌∙◌, add-one, length-set, arith}
+use Rattle.std.proofs.lemmas.List.{take_more_set, get_or-take}
 use Rattle.std.specs.Int.{w32, from_be_bytes}
 use Rattle.compression.specs.Fips180.{K, words, word_after, schedule, round, rounds}
 
@@ -27,7 +27,9 @@ unfolding schedule
 scheduled_more b w n v long few is e =
     let read : (i : ℕ) → i < n + 16 → slice_index w i ≡ slice_index (schedule n b) i =
     λ i h. sym (get_or-take (n + 16) w i 0 h) ∙ ap (λ (xs : List ℕ). slice_index xs i) e in
-    let word = is ∙ rw (read n (omega arith), read (n + 1) (omega arith), read (n + 9) (omega arith), read (n + 14) (omega arith)) refl in
+    let W = schedule n b in
+    let word : v ≡ word_after (slice_index W n) (slice_index W (n + 1)) (slice_index W (n + 9)) (slice_index W (n + 14)) =
+    is ∙ rw (read n (omega arith), read (n + 1) (omega arith), read (n + 9) (omega arith), read (n + 14) (omega arith)) refl in
     let next : schedule (n + 1) b ≡ schedule n b ++ (v ∷ []) = rw (add-one, word) refl in
     let at : n + 1 + 16 ≡ n + 16 + 1 = omega arith in
     let m = more w (n + 16) v (schedule n b) long (omega arith) e in

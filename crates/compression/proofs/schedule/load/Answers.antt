@@ -1,4 +1,4 @@
-use Rattle.std.proofs.Common.{refl, sym, arith}
+use Rattle.std.proofs.Common.{refl, arith}
 use Rattle.compression.specs.Fips180.{words}
 use Rattle.compression.proofs.Steps.{word_more}
 use Rattle.compression.proofs.schedule.load.Goals as goal
