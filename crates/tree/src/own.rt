@@ -17,14 +17,14 @@ fn place_beside(place: u64) -> u64
     if place % 2 == 0 { place + 1 } else { place - 1 }
 }
 
-// The tree of a signer over keys of so many bits, whatever these are; what is beyond the limits is refused where something is made.
+// The tree of a signer over keys of so many bits, whatever these are.
 #[derive(Clone, Copy)]
 pub struct Tree {
     pub signer: Signer,
     pub bits: u64,
 }
 
-// What makes the nodes of a tree within the limits, all of them with the same secret numbers' hasher.
+// What makes the nodes of a tree that is within the limits: the seed is taken in once for all of them.
 #[derive(Drop)]
 pub struct TreeMaker<H: RowHasher> {
     pub secrets: Secrets<H>,
@@ -34,6 +34,7 @@ pub struct TreeMaker<H: RowHasher> {
 }
 
 impl Tree {
+    // What makes this tree's nodes; what is beyond the limits is refused here.
     pub fn maker<H: RowHasher>(&self) -> Result<TreeMaker<H>, Refusal>
         ensures { Unless (tree_refusal self.now.signer.levels self.now.bits) result (λ m. (m.secrets.seed ≡ self.now.signer.seed) × (m.levels ≡ self.now.signer.levels) × (m.bits ≡ self.now.bits)) }
     {
