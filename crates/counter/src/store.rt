@@ -9,7 +9,7 @@ use crate::cells::{Cells, NotWritten};
 use keys::Refusal;
 use tree::key_count;
 
-// The modulus of the rule for checks; the stand-in hash has the same one by chance.
+// The modulus of the rule for checks.
 const MODULUS: u64 = 4_294_967_291;
 
 // The check of a count.

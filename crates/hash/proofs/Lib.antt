@@ -3,5 +3,4 @@ mod Carries
 pub mod Fronts
 pub mod Members
 pub mod Numbers
-mod Runs
 pub mod Rows

@@ -3,6 +3,5 @@ pub mod Hex
 pub mod Laws
 pub mod Members
 pub mod Mix
-pub mod StandIn
 pub mod Tag
 pub mod Value

@@ -8,10 +8,10 @@ ghost use Rattle.sessions.specs.Sessions.{Executed};
 
 mod input;
 
-use hash::StandIn;
 use input::Input;
 use keys::Refusal;
 use sessions::Session;
+use sha256::RowSha256;
 use std::alloc::Global;
 use std::io;
 use std::io::{BufRead, BufReader};
@@ -53,7 +53,7 @@ fn answer<R: BufRead>(
     } else {
         SignatureLines::none(heap, input.next)
     };
-    if let Some(text) = session.execute::<StandIn>(heap, command, &lines)? {
+    if let Some(text) = session.execute::<RowSha256>(heap, command, &lines)? {
         println!(rt; "{text}")?;
     }
     Ok(())
