@@ -26,6 +26,8 @@ fn add(v: [u32; 8], state: [u32; 8]) -> [u32; 8]
 pub fn compress(state: [u32; 8], block: &[u8; 64]) -> [u32; 8]
     ensures { result ≡ compressed state block.now }
 {
-    let w = expand(load(block));
+    let mut w = [0; 64];
+    load(block, &mut w);
+    expand(&mut w);
     add(all_rounds(state, &w), state)
 }
