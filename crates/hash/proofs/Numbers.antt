@@ -52,7 +52,7 @@ pub told_by_bytes : (m n : Number) (r : Bool) → (IsTrue r ↔ (m.bytes ≡ n.b
 told_by_bytes m n true d = sym (eq-eqb _ _ (ap worth (d.0 refl)))
 told_by_bytes m n false d = sym (ne_eqb _ _ (λ e. false≢true (d.1 (bytes_told m.bytes n.bytes (m.sized ∙ sym n.sized) m.digits n.digits e))))
 
-length-bytes : (w v : ℕ) → length (bytes_from w v) ≡ w
+pub length-bytes : (w v : ℕ) → length (bytes_from w v) ≡ w
 unfolding bytes_from
 length-bytes zero v = refl
 length-bytes (suc w) v = ap (λ (k : ℕ). suc k) (length-bytes w v)

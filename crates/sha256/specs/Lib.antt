@@ -1,2 +1,3 @@
 -- The definitions that the contracts of this crate and of those above cite.
+pub mod Laws
 pub mod Rows
