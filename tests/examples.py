@@ -2,7 +2,7 @@
 """Writes the lines of the program's run in the gate, and what the program must answer.
 
 Run by hand, not by the gate, where an example is added:  python3 tests/examples.py
-It writes crates/kachumpe/stdin, and crates/kachumpe/stdout by tests/model.py. Of each example it says which answer it gets, and fails where the model gives another; the numbers in roots and signatures are the model's own.
+It writes crates/kachumpe/stdin, and crates/kachumpe/stdout by tests/model.py. Of each example it says which answer it gets, and fails where the model gives another; the numbers in roots and signatures are the model's own, but for three roots that came from outside.
 """
 import sys
 
@@ -10,6 +10,13 @@ import model
 
 HERE = sys.path[0]
 DEED = "a deed"
+
+# Roots that neither the program nor the model worked out: the levels, the bits, and the root for the seed 17.
+FROM_OUTSIDE = (
+    (2, 4, "7a319a2763eee74cd64ddbf1d5c76eaf8d116f981e3c0fa553ab2b2bb73078eb"),
+    (3, 256, "16f89e3a0b8fa931d9300fc07988a75d01b0f33704cd8864a09e061994877978"),
+    (10, 256, "0706261f1f47eda949d420f74f6393c03db54d09ebba3eadc3c55b64ce3fc852"),
+)
 
 
 class Run:
@@ -45,7 +52,7 @@ class Tree:
     def __init__(self, levels, bits, seed=17):
         self.levels, self.bits, self.seed = levels, bits, seed
         self.line = "levels %d bits %d seed %d" % (levels, bits, seed)
-        self.root = model.node(seed, bits, levels, 0)
+        self.root = model.root(seed, bits, levels)
 
     def signature(self, key, text=DEED):
         return model.signature(self.seed, self.levels, key, model.text_bits(text.encode(), self.bits))
@@ -68,7 +75,8 @@ def store(key):
 
 
 def other(number):
-    return number ^ 1 << 230
+    """A number that differs from this one in its last bit alone."""
+    return number ^ 1
 
 
 def spoiled(levels, key, parts, others, path):
@@ -108,7 +116,8 @@ def one_key(run):
     for numbers in changed:
         run.look(tree.root, DEED, model.signature_lines(*numbers), "no")
     run.look(tree.root, "another deed", right, "no")
-    run.look(parts[0], DEED, right, "no")
+    for root in (parts[0], *[tree.root ^ 1 << bit for bit in (0, 127, 128, 255)]):
+        run.look(root, DEED, right, "no")
     for line in ("levels 1 bits 4 seed 17", "levels 0 bits 5 seed 17"):
         run.say(line)
         run.look(tree.root, DEED, right, "no")
@@ -148,8 +157,25 @@ def trees(run):
             run.look(four.root, DEED, model.signature_lines(*numbers), "no")
 
 
+def from_outside(run):
+    """The roots that came from outside."""
+    for levels, bits, root in FROM_OUTSIDE:
+        run.say("levels %d bits %d seed 17" % (levels, bits))
+        run.ask("root", root)
+
+
+def texts(run):
+    """Texts whose rows end in the middle of a block of the hash or at its end, of one block or many."""
+    tree = Tree(3, 16)
+    run.say("store 0 3 0 3", tree.line)
+    for key, text in enumerate(("", "a", "ab", "abc", "abcd", "naïve", " two  spaces ", "x" * 1000)):
+        run.ask("sign " + text, "\n".join(tree.lines(key, text)))
+        run.look(tree.root, text, tree.lines(key, text), "accepted")
+        run.look(tree.root, text + " ", tree.lines(key, text), "no")
+
+
 def all_keys(run):
-    """A tree is used up: each key signs one text."""
+    """A tree is used up: each key signs one text. The bit of some is set, and that of others is not."""
     tree = Tree(3, 1)
     run.say("store 0 3 0 3", tree.line)
     for key in range(8):
@@ -198,9 +224,9 @@ def whatever_levels_and_bits(run):
     """Looking is never turned away."""
     bits = model.text_bits(DEED.encode(), 1)
     key, parts, others, _ = model.signature(17, 0, 0, bits)
-    leaf = model.node(17, 1, 0, 0)
+    leaf = model.leaf(17, 1, 0)
     for levels, key in ((63, 2**63 - 1), (64, 2**64 - 1), (66, 2**63 + 5)):
-        path = [model.stand_in([level]) for level in range(levels)]
+        path = [model.row_hash([level]) for level in range(levels)]
         root = model.walk(key, leaf, path)
         run.say("levels %d bits 1 seed 17" % levels)
         run.look(root, DEED, model.signature_lines(key, parts, others, path), "accepted")
@@ -212,8 +238,8 @@ def whatever_levels_and_bits(run):
         run.say("levels %d bits 1 seed 17" % levels)
         run.look(root, DEED, model.signature_lines(key, parts, others, path), "no")
     run.say("levels 0 bits 0 seed 17")
-    run.look(model.stand_in([2]), DEED, ["key 0", "parts", "others", "path"], "accepted")
-    run.look(model.stand_in([2]), DEED, model.signature_lines(0, parts, others, []), "no")
+    run.look(model.row_hash([2]), DEED, ["key 0", "parts", "others", "path"], "accepted")
+    run.look(model.row_hash([2]), DEED, model.signature_lines(0, parts, others, []), "no")
     tree = Tree(0, 256)
     for asked in (300, 2**64 - 1):
         run.say("levels 0 bits %d seed 17" % asked)
@@ -394,6 +420,8 @@ def cut_off(run):
 PARTS = (
     one_key,
     trees,
+    from_outside,
+    texts,
     all_keys,
     limits,
     seeds,
@@ -428,4 +456,5 @@ def main():
     print("%d lines, %d answers: %d accepted, %d no" % (len(run.lines), len(answers), answers.count("accepted"), answers.count("no")))
 
 
-main()
+if __name__ == "__main__":
+    main()

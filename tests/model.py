@@ -2,14 +2,15 @@
 """A second account of the program, written from the rules alone: reads the program's lines on standard input and prints what it should print.
 
 Run by hand, not by the gate:  python3 tests/model.py < crates/kachumpe/stdin | diff - crates/kachumpe/stdout
-It has the stand-in hash. Other tests import it.
+Other tests import it.
 """
 import functools
+import hashlib
 import itertools
+import multiprocessing
 import re
 import sys
 
-M = 4294967291
 STORE = re.compile(rb"store((?: [0-9]+)*)")
 SETTINGS = re.compile(rb"levels ([0-9]+) bits ([0-9]+) seed ([0-9]+)")
 POWER = re.compile(rb"power ([0-9]+)")
@@ -17,47 +18,66 @@ LOOK = re.compile(rb"look ([0-9a-f]{64}) (.*)", re.S)
 LASTS = 2  # Power that lasts: a key takes two writes.
 
 
-def stand_in(row):
-    state = 0
-    for x in row:
-        state = (state * 65599 + x) % M
-    return state << 224
+def row_hash(row):
+    """SHA-256 of the numbers, each in 32 bytes, the highest first; and its 32 bytes as a number again."""
+    digest = hashlib.sha256(b"".join([x.to_bytes(32, "big") for x in row])).digest()
+    return int.from_bytes(digest, "big")
 
 
 def secret(seed, key, bit, value):
-    return stand_in([0, seed, key, bit, value])
+    return row_hash([0, seed, key, bit, value])
 
 
 def shown(number):
-    return stand_in([1, number])
+    return row_hash([1, number])
+
+
+def leaf(seed, bits, key):
+    return row_hash([2] + [shown(secret(seed, key, j, b)) for j in range(bits) for b in (0, 1)])
+
+
+def leaves(seed, bits, levels):
+    keys, each = range(2**levels), functools.partial(leaf, seed, bits)
+    if levels < 8:
+        return [each(key) for key in keys]
+    # On all processors: on one, 2^20 leaves of one bit take half a minute.
+    with multiprocessing.Pool() as pool:
+        return pool.map(each, keys)
 
 
 @functools.lru_cache(maxsize=None)
-def node(seed, bits, level, place):
-    if level == 0:
-        return stand_in([2] + [shown(secret(seed, place, j, b)) for j in range(bits) for b in (0, 1)])
-    return stand_in([3, node(seed, bits, level - 1, 2 * place), node(seed, bits, level - 1, 2 * place + 1)])
+def tree(seed, bits, levels):
+    """All nodes, level by level: the leaves first, and the root alone at the end."""
+    nodes = [leaves(seed, bits, levels)]
+    for _ in range(levels):
+        below = nodes[-1]
+        nodes.append([row_hash([3, left, right]) for left, right in zip(below[::2], below[1::2])])
+    return nodes
+
+
+def root(seed, bits, levels):
+    return tree(seed, bits, levels)[levels][0]
 
 
 def walk(key, value, path):
     for level, beside in enumerate(path):
-        value = stand_in([3, beside, value] if key >> level & 1 else [3, value, beside])
+        value = row_hash([3, beside, value] if key >> level & 1 else [3, value, beside])
     return value
 
 
 def signature(seed, levels, key, bits):
     parts = [secret(seed, key, j, b) for j, b in enumerate(bits)]
     others = [shown(secret(seed, key, j, 1 - b)) for j, b in enumerate(bits)]
-    path = [node(seed, len(bits), level, key >> level ^ 1) for level in range(levels)]
+    path = [nodes[key >> level ^ 1] for level, nodes in enumerate(tree(seed, len(bits), levels)[:levels])]
     return key, parts, others, path
 
 
 def check(count):
-    return (7 * count + 3) % M
+    return (7 * count + 3) % 4294967291
 
 
 def text_bits(text, n):
-    digest = stand_in([4] + list(text))
+    digest = row_hash([4] + list(text))
     return [(digest >> (255 - k)) & 1 for k in range(min(n, 256))]
 
 
@@ -108,7 +128,7 @@ class Session:
     def root(self):
         if self.levels > 20:
             return "1 %d" % self.levels
-        return self.bits_refusal() or "%064x" % node(self.seed, self.bits, self.levels, 0)
+        return self.bits_refusal() or "%064x" % root(self.seed, self.bits, self.levels)
 
     def sign(self, text):
         power, self.power = self.power, LASTS
@@ -131,7 +151,7 @@ class Session:
         row = [2]
         for b, p, o in zip(bits, parts, others):
             row += [o, shown(p)] if b else [shown(p), o]
-        return "accepted" if walk(key, stand_in(row), path) == root else "no"
+        return "accepted" if walk(key, row_hash(row), path) == root else "no"
 
     def told(self, line):
         """Whether this is a line that prints nothing. What it says holds from now on."""

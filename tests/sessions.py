@@ -65,7 +65,7 @@ def spoil(r, lines):
     how = r.randrange(6)
     if how == 0 and k > 0 and len(words) > 1:
         j = r.randrange(1, len(words))
-        words[j] = "%064x" % (int(words[j], 16) ^ 1 << r.randrange(224, 256))
+        words[j] = "%064x" % (int(words[j], 16) ^ 1 << r.randrange(256))
     elif how == 1 and k > 0:
         words = words[:-1] if len(words) > 1 else words + ["%064x" % r.randrange(2**256)]
     elif how == 2:
@@ -133,7 +133,7 @@ def any_levels(r, lines, text):
     bits = model.text_bits(text.encode(), count)
     key, parts, others, _ = model.signature(17, 0, r.randrange(2 ** min(levels, 64)), bits)
     path = [r.randrange(2**256) for _ in range(levels if levels < 100 else r.randrange(3))]
-    root = model.walk(key, model.node(17, len(bits), 0, key), path)
+    root = model.walk(key, model.leaf(17, len(bits), key), path)
     return "%064x" % root, model.signature_lines(key, parts, others, path)
 
 

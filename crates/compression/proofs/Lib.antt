@@ -1,1 +1,5 @@
 -- The lemmas of this crate.
+mod Bits
+mod Examples
+mod Roots
+pub mod Steps

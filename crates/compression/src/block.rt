@@ -22,6 +22,7 @@ fn add(v: [u32; 8], state: [u32; 8]) -> [u32; 8]
     ]
 }
 
+#[tactic(auto, unfolding(crate::specs::Fips180::compressed))]
 pub fn compress(state: [u32; 8], block: &[u8; 64]) -> [u32; 8]
     ensures { result ≡ compressed state block.now }
 {

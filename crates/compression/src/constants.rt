@@ -1,4 +1,6 @@
-// The constants of SHA-256. Where they come from is proved in `rules`.
+// The constants of SHA-256. Where they come from is proved in `laws`.
+ghost use Rattle.std.specs.Prelude.{◌≡◌};
+ghost use Rattle.compression.specs.Fips180.{H₀};
 
 // One for each round.
 pub const ROUND_CONSTANTS: [u32; 64] = [
@@ -68,8 +70,7 @@ pub const ROUND_CONSTANTS: [u32; 64] = [
     0xc671_78f2,
 ];
 
-// The hash value that a message begins with.
-pub const INITIAL: [u32; 8] = [
+const INITIAL: [u32; 8] = [
     0x6a09_e667,
     0xbb67_ae85,
     0x3c6e_f372,
@@ -79,3 +80,10 @@ pub const INITIAL: [u32; 8] = [
     0x1f83_d9ab,
     0x5be0_cd19,
 ];
+
+// The hash value that a message begins with.
+pub fn initial() -> [u32; 8]
+    ensures { result ≡ H₀ }
+{
+    INITIAL
+}

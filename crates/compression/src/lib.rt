@@ -3,9 +3,10 @@
 
 pub mod block;
 pub mod constants;
+pub mod laws;
 pub mod rounds;
 pub mod schedule;
 pub mod words;
 
 pub use block::compress;
-pub use constants::{INITIAL, ROUND_CONSTANTS};
+pub use constants::initial;

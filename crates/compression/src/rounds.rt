@@ -5,6 +5,7 @@ ghost use Rattle.compression.specs.Fips180.{round, rounds};
 use crate::constants::ROUND_CONSTANTS;
 use crate::words::{big_sigma_0, big_sigma_1, choose, majority};
 
+#[tactic(auto, unfolding(crate::specs::Fips180::round))]
 pub fn one_round(v: [u32; 8], k: u32, w: u32) -> [u32; 8]
     ensures { result ≡ round k w v }
 {
@@ -38,7 +39,8 @@ pub fn all_rounds(start: [u32; 8], w: &[u32; 64]) -> [u32; 8]
 {
     let mut v = start;
     for i in 0..8 {
-        v = eight_rounds(v, w, 8 * i);
+        let next = eight_rounds(v, w, 8 * i);
+        v = next;
     }
     v
 }

@@ -21,6 +21,7 @@ pub fn load(block: &[u8; 64]) -> [u32; 64]
 }
 
 // The word of the schedule after those of sixteen, fifteen, seven and two places before.
+#[tactic(auto, unfolding(crate::specs::Fips180::word_after))]
 pub fn next_word(w16: u32, w15: u32, w7: u32, w2: u32) -> u32
     ensures { result ≡ word_after w16 w15 w7 w2 }
 {
