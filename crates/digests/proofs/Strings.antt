@@ -12,6 +12,7 @@ use Rattle.signatures.specs.Rows.{OwnRow, looked_rows, CollisionOf, LocatedColli
 use Rattle.signatures.specs.Signatures.{Signature, numbers, signed}
 use Rattle.signatures.proofs.Each.{each_at}
 use Rattle.signatures.proofs.Forgeries.{own_or_located_lem}
+use Rattle.signer.specs.Promises.{Own}
 use Rattle.signer.specs.Runs.{Issued, given}
 use Rattle.signer.proofs.Know.{must_know_located_lem}
 use Rattle.signer.proofs.Runs.{given_within}
@@ -77,12 +78,14 @@ own_tell n s l keys bits a b x y e =
           ]
     ]
 
-pub located_strings : (n s l : ℕ) (bs : List Bool) (g : Signature) → Bounded (numbers g) → LocatedCollision row_hash n s l bs g → LocatedStrings n s l bs g
-located_strings n s l bs g small c = strings _ _ (looked_tell n s l bs g small) c
+-- the signer's own or two such rows, as its own or two such byte strings
+pub as_strings : (s l n k : ℕ) (bs : List Bool) (g : Signature) → Bounded (numbers g) → Own row_hash s l n k bs g ⊎ LocatedCollision row_hash n s l bs g →
+    Own row_hash s l n k bs g ⊎ LocatedStrings n s l bs g
+as_strings s l n k bs g small (inl o) = inl o
+as_strings s l n k bs g small (inr c) = inr (strings _ _ (looked_tell n s l bs g small) c)
 
 pub own_or_strings_lem : OwnOrStrings
-own_or_strings_lem s l n k bs g small acc =
-    elim (own_or_located_lem row_hash s l n k bs g acc) [ inl o ↦ inl o | inr c ↦ inr (located_strings n s l bs g small c) ]
+own_or_strings_lem s l n k bs g small acc = as_strings s l n k bs g small (own_or_located_lem row_hash s l n k bs g acc)
 
 -- rows of two sorts as byte strings of two sorts
 either : (A B : List ℕ → Type 0) (a : List ℕ) → BytesOf (λ r. A r ⊎ B r) a → BytesOf A a ⊎ BytesOf B a

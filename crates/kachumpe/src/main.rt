@@ -8,7 +8,6 @@ ghost use Rattle.sessions.specs.Sessions.{Executed};
 
 mod input;
 
-use hash::StandIn;
 use input::Input;
 use keys::Refusal;
 use sessions::Session;
@@ -53,7 +52,7 @@ fn answer<R: BufRead>(
     } else {
         SignatureLines::none(heap, input.next)
     };
-    if let Some(text) = session.execute::<StandIn>(heap, command, &lines)? {
+    if let Some(text) = session.execute(heap, command, &lines)? {
         println!(rt; "{text}")?;
     }
     Ok(())
