@@ -12,8 +12,8 @@ import tempfile
 
 PROGRAM = sys.path[0] + "/../crates/kachumpe/out/kachumpe"
 BITS, TEXT = 100, "a deed"
-# how many numbers the rows have that are hashed
-SECRET, SHOWN, NODE = 5, 2, 3
+# how many numbers the rows have that are hashed; a secret number's has two more in front, which are taken in once for all of them
+FRONT, SECRET, SHOWN, NODE = 2, 3, 2, 3
 LEAF = 1 + BITS * 2 * (SECRET + SHOWN + 1)
 # beside the path: the text's hash, both secret numbers of each bit, and what is shown of one
 GIVEN_AWAY = 1 + len(TEXT) + BITS * (2 * SECRET + SHOWN)
@@ -54,8 +54,8 @@ def main():
         for levels in [int(word) for word in sys.argv[1:]] or [0, 1, 3, 6, 10]:
             seen = calls(levels, command)
             nodes = seen.get("tree::join", 0)
-            leaves = seen["tree::own::Tree::make_path"] - nodes
-            if seen["hash::stand_in::StandInRowHasher::absorb"] != leaves * LEAF + nodes * NODE + away:
+            leaves = seen["tree::own::TreeMaker::make_path"] - nodes
+            if seen["hash::stand_in::StandInRowHasher::absorb"] != FRONT + leaves * LEAF + nodes * NODE + away:
                 sys.exit("%s with %d levels: other numbers are hashed than those of %d leaves and %d nodes" % (name, levels, leaves, nodes))
             of_nodes = "%.4f" % (nodes / (2**levels - 1)) if levels else ""
             print("%-12s %6d %8d %6.4f %8d %13s %17d" % (name, levels, leaves, leaves / 2**levels, nodes, of_nodes, memory(levels, command)))

@@ -1,12 +1,12 @@
 // The block function of SHA-256: its words, its constants, and the next hash value from one and a block.
 #![tactic(auto)]
 
-pub mod block;
-pub mod constants;
+mod block;
+mod constants;
 pub mod laws;
-pub mod rounds;
-pub mod schedule;
-pub mod words;
+mod rounds;
+mod schedule;
+mod words;
 
 pub use block::compress;
 pub use constants::initial;

@@ -7,7 +7,7 @@ use crate::number::Number;
 use crate::purpose::Purpose;
 
 // `mix` is the hash as a function from rows to numbers. `holds s xs` says that the state s has taken in the row xs: a state of fixed size does not determine its row, so this is a relation.
-pub trait RowHasher: Sized + Drop {
+pub trait RowHasher: Sized + Copy {
     ghost mix: { List ℕ → ℕ };
 
     ghost holds: { Self → List ℕ → Type 0 };

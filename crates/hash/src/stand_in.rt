@@ -9,7 +9,7 @@ use crate::row::RowHasher;
 
 const MODULUS: u64 = 4_294_967_291;
 
-#[derive(Drop)]
+#[derive(Clone, Copy)]
 pub struct StandIn {
     state: u32,
 }

@@ -6,5 +6,5 @@ pub mod one_time;
 pub mod refusal;
 
 pub use limits::Signer;
-pub use one_time::{OneTimeKey, show};
+pub use one_time::{OneTimeKey, Secrets, show};
 pub use refusal::Refusal;

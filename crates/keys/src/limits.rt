@@ -2,7 +2,6 @@
 ghost use Rattle.std.specs.Prelude.{◌≡◌, ⊤};
 ghost use Rattle.keys.specs.Refusals.{levels_refusal, bits_refusal, tree_refusal, Unless};
 
-use crate::one_time::OneTimeKey;
 use crate::refusal::Refusal;
 use hash::Number;
 
@@ -17,16 +16,6 @@ impl Signer {
     pub const MAX_LEVELS: usize = 20;
 
     pub const MAX_BITS: usize = 256;
-
-    pub fn key(&self, index: u64) -> OneTimeKey
-        ensures seed { result.seed ≡ self.now.seed }
-        ensures index { result.index ≡ index }
-    {
-        OneTimeKey {
-            seed: self.seed,
-            index,
-        }
-    }
 
     pub fn refuse_levels(levels: u64) -> Result<(), Refusal>
         ensures { Unless (levels_refusal levels) result (λ _. ⊤) }

@@ -12,21 +12,21 @@ use tree::Tree;
 
 // Writes for each bit its secret number, and what is shown of the other one, and nothing behind them (said by `drop`, which is as short as a name). Into lent arrays, since a device has no heap.
 fn reveal<H: RowHasher>(
-    key: &OneTimeKey,
+    key: &OneTimeKey<'_, H>,
     bits: &[bool],
     parts: &mut [Number],
     others: &mut [Number],
 )
     requires parts { length bits.now ≤ length parts.old }
     requires others { length bits.now ≤ length others.old }
-    ensures parts { map value_of (take (length bits.now) parts.new) ≡ parts_from H.mix (value_of key.now.seed) key.now.index 0 bits.now }
+    ensures parts { map value_of (take (length bits.now) parts.new) ≡ parts_from H.mix (value_of key.now.secrets.now.seed) key.now.index 0 bits.now }
     ensures rest { (drop (length bits.now) parts.new ≡ drop (length bits.now) parts.old) × (drop (length bits.now) others.new ≡ drop (length bits.now) others.old) }
-    ensures others { map value_of (take (length bits.now) others.new) ≡ others_from H.mix (value_of key.now.seed) key.now.index 0 bits.now }
+    ensures others { map value_of (take (length bits.now) others.new) ≡ others_from H.mix (value_of key.now.secrets.now.seed) key.now.index 0 bits.now }
 {
     // By index, since behind `zip` a proof knows of what is written through `iter_mut` the length alone.
     for (j, bit) in bits.iter().enumerate() {
-        parts[j] = key.secret::<H>(j as u64, *bit);
-        others[j] = key.shown::<H>(j as u64, !*bit);
+        parts[j] = key.secret(j as u64, *bit);
+        others[j] = key.shown(j as u64, !*bit);
     }
 }
 
@@ -44,10 +44,16 @@ pub fn sign_with<H: RowHasher>(
         signer: *signer,
         bits: bits.len() as u64,
     };
-    tree.authentication_path::<H>(key, &mut room.path)?;
-    reveal::<H>(&signer.key(key), bits, &mut room.parts, &mut room.others);
+    let maker = tree.maker::<H>()?;
+    maker.authentication_path(key, &mut room.path);
+    reveal(
+        &maker.secrets.key(key),
+        bits,
+        &mut room.parts,
+        &mut room.others,
+    );
     room.key = key;
     room.bits = bits.len();
-    room.levels = signer.levels as usize;
+    room.levels = maker.levels;
     Ok(())
 }

@@ -9,7 +9,7 @@ use hash::{Number, Purpose, RowHasher};
 
 pub mod own;
 
-pub use own::Tree;
+pub use own::{Tree, TreeMaker};
 
 // How many keys a tree of so many levels has, where that is below 2^64.
 pub fn key_count(levels: u64) -> Option<u64>

@@ -15,7 +15,7 @@ loop-j-init g c = (refl, refl, refl, refl)
 pub loop-j-preserved : goal.loop-j-preserved
 loop-j-preserved g c =
     let h = g.H.RowHasher.mix in
-    let s = value_of c.args.key.now.seed in
+    let s = value_of c.args.key.now.secrets.now.seed in
     let i = c.args.key.now.index in
     let bs = c.args.bits.now in
     let j = c.loop-j.j in

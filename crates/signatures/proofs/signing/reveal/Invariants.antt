@@ -6,7 +6,7 @@ use Rattle.signatures.proofs.signing.reveal.Given as goal
 
 abbrev pub invariant-loop-j : goal.invariant-loop-j
 invariant-loop-j g l =
-    (map value_of (take l.j l.parts) ≡ parts_from g.H.RowHasher.mix (value_of l.key.seed) l.key.index 0 (take l.j l.bits))
-    × (map value_of (take l.j l.others) ≡ others_from g.H.RowHasher.mix (value_of l.key.seed) l.key.index 0 (take l.j l.bits))
+    (map value_of (take l.j l.parts) ≡ parts_from g.H.RowHasher.mix (value_of l.key.secrets.now.seed) l.key.index 0 (take l.j l.bits))
+    × (map value_of (take l.j l.others) ≡ others_from g.H.RowHasher.mix (value_of l.key.secrets.now.seed) l.key.index 0 (take l.j l.bits))
     × (drop l.j l.parts ≡ drop l.j l.initial.parts)
     × (drop l.j l.others ≡ drop l.j l.initial.others)

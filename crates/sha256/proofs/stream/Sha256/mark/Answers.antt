@@ -8,7 +8,7 @@ unfolding Holds
 returns-then-used-ge56-clause-marked c = λ m h.
     let s = c.args.self.now in
     let u = s.length % 64 in
-    marked_full s.state s.block m u (63 - u) h.1 (omega (arith, h.0)) c.compress-next.result (omega arith) (omega arith) c.compress-next.ensures
+    marked_full s.state s.block m u (63 - u) h.1 (omega (arith, h.0)) _ _ (omega arith) (omega arith) c.hash_block.ensures.state c.hash_block.ensures.block
 
 pub returns-else-used-ge56-clause-marked : goal.returns-else-used-ge56-clause-marked
 unfolding Holds

@@ -7,7 +7,7 @@ pub returns-then-end-eq64 : goal.returns-then-end-eq64
 unfolding Holds
 returns-then-end-eq64 c = λ m h. (
   omega (arith, h.0, length-append m c.args.bytes.now),
-  put_full c.args.self.now.state c.args.self.now.block _ m c.args.bytes.now _ _ _ h.1 (omega (arith, h.0)) (omega arith) (omega arith) c.copy_from_slice.ensures.after c.compress-next.ensures,
+  put_full c.args.self.now.state c.args.self.now.block _ _ m c.args.bytes.now _ _ _ h.1 (omega (arith, h.0)) (omega arith) (omega arith) c.copy_from_slice.ensures.after c.hash_block.ensures.state c.hash_block.ensures.block,
 )
 
 pub returns-else-end-eq64 : goal.returns-else-end-eq64

@@ -6,12 +6,12 @@ use Rattle.hash.proofs.Fronts.{behind_more}
 use Rattle.keys.specs.Keys.{leaf}
 use Rattle.tree.specs.Tree.{node}
 use Rattle.tree.proofs.Paths.{first_leaf, beside_small, node_up, path_more, node_none, path_none}
-use Rattle.tree.proofs.own.Tree.+make_node_make_path.Goals as goal
+use Rattle.tree.proofs.own.TreeMaker.+make_node_make_path.Goals as goal
 
 pub make_node-returns : goal.make_node-returns
 make_node-returns g t c =
     let h = g.H.RowHasher.mix in
-    let s = value_of c.args.self.now.signer.seed in
+    let s = value_of c.args.self.now.secrets.seed in
     record {
       value = c.make_path.ensures.value ∙ ap (λ (x : ℕ). node h c.args.self.now.bits s c.args.level x) (first_leaf c.args.place c.args.level c.requires.small);
       rest = c.make_path.ensures.rest;
@@ -21,7 +21,7 @@ pub make_path-returns-then-level-eq0 : goal.make_path-returns-then-level-eq0
 make_path-returns-then-level-eq0 g t c =
     let h = g.H.RowHasher.mix in
     let n = c.args.self.now.bits in
-    let s = c.args.self.now.signer.seed in
+    let s = c.args.self.now.secrets.seed in
     let none = c.if-level-eq0.true in
     let own = ap (λ (y : Number). leaf h n (value_of y) c.key.result.index) c.key.ensures.seed ∙ ap (λ (i : ℕ). leaf h n (value_of s) i) c.key.ensures.index in
     record {
@@ -39,7 +39,7 @@ pub make_path-returns : goal.make_path-returns
 make_path-returns g t c =
     let h = g.H.RowHasher.mix in
     let n = c.args.self.now.bits in
-    let s = value_of c.args.self.now.signer.seed in
+    let s = value_of c.args.self.now.secrets.seed in
     let x = c.args.key in
     let m = c.args.level - 1 in
     let up : m + 1 ≡ c.args.level = omega arith in
