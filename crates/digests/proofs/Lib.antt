@@ -1,1 +1,3 @@
 -- The lemmas of this crate.
+mod Plain
+pub mod Strings

@@ -5,7 +5,7 @@ use Rattle.std.specs.Int.Digits.{number_from_digits_after, number_from_digits}
 use Rattle.std.proofs.lemmas.List.{drop_more, drop-set, get_or-take, length-drop}
 
 -- a number before digits counts for itself, times the base once for each of them
-before_digits : (b m n : ℕ) (ds : List ℕ) → number_from_digits_after b (m + n) ds ≡ m * b ^ length ds + number_from_digits_after b n ds
+pub before_digits : (b m n : ℕ) (ds : List ℕ) → number_from_digits_after b (m + n) ds ≡ m * b ^ length ds + number_from_digits_after b n ds
 before_digits b m n [] = omega (arith, ap (λ k. m * k) (pow-zero b))
 before_digits b m n (d ∷ ds) =
     let first : (m + n) * b + d ≡ m * b + (n * b + d) = omega (arith, add-mul m n b) in

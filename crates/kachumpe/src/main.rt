@@ -11,7 +11,6 @@ mod input;
 use input::Input;
 use keys::Refusal;
 use sessions::Session;
-use sha256::RowSha256;
 use std::alloc::Global;
 use std::io;
 use std::io::{BufRead, BufReader};
@@ -53,7 +52,7 @@ fn answer<R: BufRead>(
     } else {
         SignatureLines::none(heap, input.next)
     };
-    if let Some(text) = session.execute::<RowSha256>(heap, command, &lines)? {
+    if let Some(text) = session.execute(heap, command, &lines)? {
         println!(rt; "{text}")?;
     }
     Ok(())

@@ -1,11 +1,13 @@
 -- What is promised follows from what is answered.
-use Rattle.std.proofs.Common.{◌≡◌, ℕ, ◌<◌, min, Bool, true, false, ◌⊎◌, List, ◌++◌, length, get_or, Some, None, Ok, Err, vec_items, codes, decimal, Option, Result, String, sym, refl, ap, ◌∙◌, subst, arith}
+use Rattle.std.proofs.Common.{◌≡◌, ℕ, ◌<◌, min, Bool, true, false, ◌⊎◌, List, ◌++◌, map, length, get_or, Some, None, Ok, Err, vec_items, codes, decimal, Option, Result, String, sym, refl, ap, ◌∙◌, subst, arith}
 use Rattle.std.specs.declared.alloc.Global.{Global}
 use Rattle.std.proofs.lemmas.List.FromFn.{length-map-range_with_len}
 use Rattle.std.proofs.lemmas.Fmt.{decimal_digit}
 use Rattle.std.proofs.lemmas.Bool.{ltb-true}
 use Rattle.hash.specs.Mix.{Mix}
 use Rattle.hash.specs.Value.{bytes_of, value_of, bit_at}
+use Rattle.sha256.specs.Rows.{row_hash, Bounded}
+use Rattle.sha256.proofs.Bounds.{Bounded-append, values_bounded}
 use Rattle.keys.specs.Refusals.{refusal_number, refusal_place, refusal_spelled}
 use Rattle.keys.specs.declared.refusal.Refusal.{Refusal}
 use Rattle.keys.specs.declared.refusal.Refusal.TheVariants.{Levels as TooManyLevels, Store as BadStore, NextKey, Bits, Line}
@@ -13,11 +15,12 @@ use Rattle.keys.proofs.Refused.{bits_taken}
 use Rattle.tree.specs.Tree.{node}
 use Rattle.signatures.specs.Lines.{signature_text}
 use Rattle.signatures.specs.Rows.{LocatedCollision}
-use Rattle.signatures.specs.Signatures.{signed, accepted}
+use Rattle.signatures.specs.Signatures.{numbers, signed, accepted}
 use Rattle.signatures.proofs.Forgeries.{own_or_located_lem}
 use Rattle.signatures.proofs.Own.{own_accepted_lem}
 use Rattle.signer.specs.Answers.{answer}
 use Rattle.signer.specs.Promises.{Own}
+use Rattle.digests.proofs.Strings.{as_strings}
 use Rattle.counter.specs.Store.{next}
 use Rattle.counter.specs.declared.answer.Done.{Done}
 use Rattle.counter.specs.declared.answer.Done.TheVariants.{Key}
@@ -29,7 +32,7 @@ use Rattle.texts.specs.declared.command.Command.TheVariants.{Store, Levels, Root
 use Rattle.texts.specs.declared.signature.ReadSignature.{ReadSignature}
 use Rattle.texts.specs.declared.signature.SignatureLines.{SignatureLines}
 use Rattle.sessions.specs.Replies.{sign_spelled, look_spelled}
-use Rattle.sessions.specs.Sessions.{power_of, bits_asked, look_answer, Says, Answered, Promised}
+use Rattle.sessions.specs.Sessions.{power_of, bits_asked, look_answer, Says, Answered, Promised, PromisedStrings}
 use Rattle.sessions.specs.declared.session.Session.{Session}
 
 -- a text is only one
@@ -98,3 +101,16 @@ promised h s (Look r x) t o a = λ e.
 promised h s (Power k) t o a = tt
 promised h s Slot t o a = tt
 promised h s State t o a = tt
+
+-- the numbers of a signature that was read are numbers of the program
+read_bounded : (g : ReadSignature) → Bounded (numbers (signature_of g))
+read_bounded g =
+    let rest = Bounded-append (map value_of (vec_items g.others)) (map value_of (vec_items g.path)) (values_bounded (vec_items g.others)) (values_bounded (vec_items g.path)) in
+    Bounded-append (map value_of (vec_items g.parts)) _ (values_bounded (vec_items g.parts)) rest
+
+-- at SHA-256 with byte strings
+pub promised_strings : (s : Session) (c : Command) (t : SignatureLines) (o : Option (String Global)) → Promised row_hash s c t o → PromisedStrings s c t o
+promised_strings s (Look r x) t o p = λ e.
+    let y = p e in
+    (y.0, y.1, λ seed l n root. as_strings seed l n s.tree.signer.levels (bits_asked row_hash s (vec_items x)) (signature_of y.0) (read_bounded y.0) (y.2 seed l n root))
+promised_strings s c t o p = p

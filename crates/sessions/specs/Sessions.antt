@@ -1,9 +1,10 @@
--- What a command is answered, and what it leaves of the session. For every hash h. Assumes nothing: these are definitions.
+-- What a command is answered, and what it leaves of the session. For every hash h, and the last for SHA-256. Assumes nothing: these are definitions.
 use Rattle.std.specs.Prelude.{◌≡◌, ℕ, Bool, true, ◌⊎◌, List, Some, None, Ok, Err, vec_items, string_bytes, codes, Option, Result, String, MatchOption}
 use Rattle.std.specs.Option.{unwrap_or}
 use Rattle.hash.specs.Hex.{hex}
 use Rattle.hash.specs.Mix.{Mix}
 use Rattle.hash.specs.Value.{bytes_of, value_of}
+use Rattle.sha256.specs.Rows.{row_hash}
 use Rattle.keys.specs.Refusals.{tree_refusal, refusal_spelled}
 use Rattle.keys.specs.declared.refusal.Refusal.{Refusal}
 use Rattle.tree.specs.Tree.{node}
@@ -13,6 +14,7 @@ use Rattle.signatures.specs.Rows.{LocatedCollision}
 use Rattle.signatures.specs.Signatures.{signed, accepted}
 use Rattle.signer.specs.Answers.{answer, stored}
 use Rattle.signer.specs.Promises.{Own}
+use Rattle.digests.specs.Digests.{LocatedStrings}
 use Rattle.counter.specs.Reserving.{KeepsCount}
 use Rattle.counter.specs.Store.{next, counting}
 use Rattle.counter.specs.declared.answer.Done.TheVariants.{Key}
@@ -127,3 +129,12 @@ Promised h s (Look r x) t o =
 Promised h s (Power k) t o = Unit {0}
 Promised h s Slot t o = Unit {0}
 Promised h s State t o = Unit {0}
+
+-- What is promised where the hash is SHA-256. Where `accepted` is printed, the lines are those of a signature that is, of every signer whose root this is, the signer's own for just these bits; or two byte strings differ and have the same SHA-256, one hashed in looking at it and one in the signer's own tree. All else is as for every hash
+abbrev pub PromisedStrings : Session → Command → SignatureLines → Option (String Global) → Type 0
+PromisedStrings s (Look r x) t o =
+    let bs = bits_asked row_hash s (vec_items x) in
+    Says o (codes "accepted") →
+    (g : ReadSignature) × LinesOf (signature_of g) t
+    × ((seed l n : ℕ) → value_of r ≡ node row_hash n seed l 0 → Own row_hash seed l n s.tree.signer.levels bs (signature_of g) ⊎ LocatedStrings n seed l bs (signature_of g))
+PromisedStrings s c t o = Promised row_hash s c t o

@@ -1,6 +1,7 @@
 // What the lines of the program ask, on values: the store, the signer and its bits, for how many writes power lasts, and what is signed and looked at with them.
 ghost use Rattle.std.specs.Prelude.{◌≡◌, ℕ, true, ◌⊎◌, [], None, IfOk, string_bytes, Result, MatchResult};
 ghost use Rattle.hash.specs.Value.{value_of};
+ghost use Rattle.sha256.specs.Rows.{row_hash};
 ghost use Rattle.keys.specs.Refusals.{tree_refusal, Unless};
 ghost use Rattle.keys.specs.declared.refusal.Refusal.{Refusal};
 ghost use Rattle.tree.specs.Tree.{node};
@@ -12,12 +13,13 @@ ghost use Rattle.signer.specs.Answers.{answer, stored, RoomSays, GivenAccepted};
 ghost use Rattle.signer.specs.Promises.{Own};
 ghost use Rattle.texts.specs.SignatureLines.{SignatureRead};
 ghost use Rattle.texts.specs.declared.signature.ReadSignature.{ReadSignature};
-ghost use Rattle.sessions.specs.Sessions.{bits_asked, power_of, look_answer, Executed, Failed, Counted, Answered, Promised};
+ghost use Rattle.sessions.specs.Sessions.{bits_asked, power_of, look_answer, Executed, Failed, Counted, Answered, Promised, PromisedStrings};
 
 use crate::reply::{look_text, root_text, sign_text, slot_text, state_text};
 use counter::{Done, slot};
 use hash::{Number, RowHasher};
 use keys::{Refusal, Signer};
+use sha256::RowSha256;
 use signatures::{SignatureRoom, SignatureView};
 use signer::{look, refuse, sign};
 use std::alloc::{AllocError, Global};
@@ -125,8 +127,23 @@ impl Session {
         }
     }
 
-    // Does what a command asks, and gives the text that answers it, if one does. The lines are those behind the command, which only a `look` takes.
-    pub fn execute<H: RowHasher>(
+    // Does what a command asks, and gives the text that answers it, if one does. The lines are those behind the command, which only a `look` takes. The hash is SHA-256.
+    pub fn execute(
+        &mut self,
+        heap: Global,
+        command: Command,
+        lines: &SignatureLines,
+    ) -> Result<Option<String>, AllocError>
+        ensures session { MatchResult result (λ _. Executed self.old command self.new) (λ _. Failed self.old self.new) }
+        ensures counts { Counted self.old command self.new }
+        ensures text { IfOk result (λ o. Answered row_hash self.old command lines.now o) }
+        ensures promised { IfOk result (λ o. PromisedStrings self.old command lines.now o) }
+    {
+        self.execute_with::<RowSha256>(heap, command, lines)
+    }
+
+    // The same with any hash.
+    pub fn execute_with<H: RowHasher>(
         &mut self,
         heap: Global,
         command: Command,

@@ -1,2 +1,5 @@
 -- The lemmas of this crate.
 pub mod Absorbing
+pub mod Bounds
+pub mod Digests
+pub mod Encoding

@@ -1,3 +1,4 @@
 -- The definitions that the contracts of this crate and of those above cite.
+pub mod Laws
 pub mod Rows
 pub mod Streams

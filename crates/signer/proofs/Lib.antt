@@ -1,5 +1,5 @@
 -- The lemmas of this crate.
 pub mod Entries
-mod Know
+pub mod Know
 mod OneTree
-mod Runs
+pub mod Runs

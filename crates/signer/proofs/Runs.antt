@@ -4,8 +4,9 @@ use Rattle.std.proofs.lemmas.Bool.Decides.{nat_tests}
 use Rattle.std.proofs.lemmas.Bool.{cases_Bool}
 use Rattle.hash.specs.Members.{In, Rising}
 use Rattle.hash.proofs.Members.{In-append, from_map, one_each}
-use Rattle.keys.specs.Limits.{max_levels}
+use Rattle.keys.specs.Limits.{max_levels, max_bits}
 use Rattle.keys.specs.declared.refusal.Refusal.{Refusal}
+use Rattle.keys.proofs.Refused.{levels_taken, bits_taken}
 use Rattle.tree.specs.Tree.{power}
 use Rattle.counter.specs.Answers.{unrefused, unless_refused}
 use Rattle.signer.specs.Answers.{refusal}
@@ -13,6 +14,7 @@ use Rattle.signer.specs.Promises.{KeysRise, OneRow}
 use Rattle.signer.specs.Runs.{Request, Issued, answered, after, issued, given}
 use Rattle.counter.specs.Store.{next, sound, step, gives}
 use Rattle.counter.proofs.Counts.{step_kept}
+use Rattle.signer.proofs.Entries.{taken}
 
 -- what one request gives, at most one key, and the store after it
 pub record Steps {Q : Type 0} (g : List ℕ → Q → List Issued) (t : List ℕ → Q → List ℕ) : Type 0 where
@@ -128,4 +130,19 @@ given_below m qs a i =
     (λ k q x j.
     let b = unrefused_below q.levels q.lasts k q (refusal q.levels k (length q.bits)) x j in
     subst (λ (y : Request). x.key < power y.levels) (sym b.1) b.0)
+    m qs a (rw (given_is m qs) at i)
+
+-- and it is of a tree and for bits within the limits
+unrefused_none : (l w : ℕ) (m : List ℕ) (q : Request) (o : Option Refusal) (x : Issued) → In x (issued q (unrefused l m w o)) → (None ≡ o) × (x.request ≡ q)
+unrefused_none l w m q (Some r) x i = absurd i
+unrefused_none l w m q None x i = (refl, (unrefused_below l w m q None x i).1)
+
+pub given_within : (m : List ℕ) (qs : List Request) (a : Issued) → In a (given m qs) → (a.request.levels ≤ max_levels) × (length a.request.bits ≤ max_bits)
+unfolding request_issued
+given_within m qs a i =
+    run_all request_issued after (λ (x : Issued). (x.request.levels ≤ max_levels) × (length x.request.bits ≤ max_bits))
+    (λ k q x j.
+    let b = unrefused_none q.levels q.lasts k q (refusal q.levels k (length q.bits)) x j in
+    let t = taken q.levels k (length q.bits) b.0 in
+    subst (λ (y : Request). (y.levels ≤ max_levels) × (length y.bits ≤ max_bits)) (sym b.1) (levels_taken q.levels t.0, (bits_taken (length q.bits) t.3).1))
     m qs a (rw (given_is m qs) at i)
