@@ -3,7 +3,7 @@
 
 Run by hand, not by the gate, after `rt run` in crates/kachumpe; needs valgrind:  python3 bench/work.py [levels ..]
 
-Calls are counted and nothing is timed, so every run gives the same counts. The maker of paths either makes a leaf or joins two nodes, so its calls that do not join are the leaves. That is checked by how many numbers are hashed in all.
+Calls are counted and nothing is timed, so every run gives the same counts. A leaf takes two secret numbers a bit, which are counted; the maker of paths either makes a leaf or joins two nodes, so its other calls are the nodes. That is checked by how many blocks are hashed in all.
 """
 import re
 import subprocess
@@ -12,11 +12,19 @@ import tempfile
 
 PROGRAM = sys.path[0] + "/../crates/kachumpe/out/kachumpe"
 BITS, TEXT = 100, "a deed"
-# how many numbers the rows have that are hashed; a secret number's has two more in front, which are taken in once for all of them
-FRONT, SECRET, SHOWN, NODE = 2, 3, 2, 3
-LEAF = 1 + BITS * 2 * (SECRET + SHOWN + 1)
-# beside the path: the text's hash, both secret numbers of each bit, and what is shown of one
-GIVEN_AWAY = 1 + len(TEXT) + BITS * (2 * SECRET + SHOWN)
+
+
+def blocks(numbers):
+    """How many blocks of 64 bytes a row of so many numbers takes, with its padding."""
+    return numbers // 2 + 1
+
+
+# the block of 0 and the seed is hashed once for all secret numbers; of each it leaves the rest of five numbers
+FRONT, SECRET, SHOWN, NODE = 1, blocks(5) - 1, blocks(2), blocks(3)
+LEAF = BITS * 2 * (SECRET + SHOWN) + blocks(1 + 2 * BITS)
+# beside the path: both secret numbers of each bit, and what is shown of one; and the text's hash
+GIVEN_AWAY = 2 * BITS
+AWAY = GIVEN_AWAY * SECRET + BITS * SHOWN + blocks(1 + len(TEXT))
 
 
 def run(tool, levels, command):
@@ -50,13 +58,13 @@ def memory(levels, command):
 
 def main():
     print("%-12s levels   leaves  / 2^l    nodes  / (2^l - 1)   bytes of memory" % "")
-    for name, command, away in (("a root", "root", 0), ("a signature", "sign " + TEXT, GIVEN_AWAY)):
+    for name, command, secrets, away in (("a root", "root", 0, 0), ("a signature", "sign " + TEXT, GIVEN_AWAY, AWAY)):
         for levels in [int(word) for word in sys.argv[1:]] or [0, 1, 3, 6, 10]:
             seen = calls(levels, command)
-            nodes = seen.get("tree::join", 0)
-            leaves = seen["tree::own::TreeMaker::make_path"] - nodes
-            if seen["hash::stand_in::StandInRowHasher::absorb"] != FRONT + leaves * LEAF + nodes * NODE + away:
-                sys.exit("%s with %d levels: other numbers are hashed than those of %d leaves and %d nodes" % (name, levels, leaves, nodes))
+            leaves = (seen["keys::one_time::OneTimeKey::secret"] - secrets) // (2 * BITS)
+            nodes = seen["tree::own::TreeMaker::make_path"] - leaves
+            if seen["compression::block::compress"] != FRONT + leaves * LEAF + nodes * NODE + away:
+                sys.exit("%s with %d levels: other blocks are hashed than those of %d leaves and %d nodes" % (name, levels, leaves, nodes))
             of_nodes = "%.4f" % (nodes / (2**levels - 1)) if levels else ""
             print("%-12s %6d %8d %6.4f %8d %13s %17d" % (name, levels, leaves, leaves / 2**levels, nodes, of_nodes, memory(levels, command)))
 

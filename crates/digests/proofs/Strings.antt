@@ -1,7 +1,7 @@
 -- Two rows that differ and hash to the same, as two byte strings.
 use Rattle.std.proofs.Common.{◌≡◌, ℕ, suc, ◌^◌, ◌<◌, ◌≤◌, Bool, ◌⊎◌, List, [], ◌∷◌, get_or, sym, refl, ap, ◌∙◌, subst, inl, inr, mod-eq_of_lt, arith}
 use Rattle.hash.specs.Members.{In}
-use Rattle.sha256.specs.Rows.{row_bytes, row_hash, Bounded}
+use Rattle.sha256.specs.Rows.{row_bytes, row_hash, BoundedRow}
 use Rattle.sha256.proofs.Digests.{hash_tells_lem}
 use Rattle.sha256.proofs.Encoding.{rest, rests_told, bytes_tell_lem}
 use Rattle.keys.specs.Keys.{bit, secret_row, secret}
@@ -61,7 +61,7 @@ plain_tell n s l a b p own e =
       | inr q ↦ absurd (not_secret a s q.0 q.1 q.2 p (e ∙ ap row_bytes q.5))
     ]
 
-looked_tell : (n s l : ℕ) (bs : List Bool) (g : Signature) → Bounded (numbers g) → Tell (λ r. In r (looked_rows row_hash bs g)) (OwnRow row_hash n s l)
+looked_tell : (n s l : ℕ) (bs : List Bool) (g : Signature) → BoundedRow (numbers g) → Tell (λ r. In r (looked_rows row_hash bs g)) (OwnRow row_hash n s l)
 looked_tell n s l bs g small a b i own e = plain_tell n s l a b (looked_plain bs g a small i) own e
 
 own_tell : (n s l : ℕ) → power l ≤ 2 ^ 256 → n ≤ 2 ^ 256 → Tell (OwnRow row_hash n s l) (OwnRow row_hash n s l)
@@ -79,7 +79,7 @@ own_tell n s l keys bits a b x y e =
     ]
 
 -- the signer's own or two such rows, as its own or two such byte strings
-pub as_strings : (s l n k : ℕ) (bs : List Bool) (g : Signature) → Bounded (numbers g) → Own row_hash s l n k bs g ⊎ LocatedCollision row_hash n s l bs g →
+pub as_strings : (s l n k : ℕ) (bs : List Bool) (g : Signature) → BoundedRow (numbers g) → Own row_hash s l n k bs g ⊎ LocatedCollision row_hash n s l bs g →
     Own row_hash s l n k bs g ⊎ LocatedStrings n s l bs g
 as_strings s l n k bs g small (inl o) = inl o
 as_strings s l n k bs g small (inr c) = inr (strings _ _ (looked_tell n s l bs g small) c)

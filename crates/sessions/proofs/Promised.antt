@@ -6,8 +6,8 @@ use Rattle.std.proofs.lemmas.Fmt.{decimal_digit}
 use Rattle.std.proofs.lemmas.Bool.{ltb-true}
 use Rattle.hash.specs.Mix.{Mix}
 use Rattle.hash.specs.Value.{bytes_of, value_of, bit_at}
-use Rattle.sha256.specs.Rows.{row_hash, Bounded}
-use Rattle.sha256.proofs.Bounds.{Bounded-append, values_bounded}
+use Rattle.sha256.specs.Rows.{row_hash, BoundedRow}
+use Rattle.sha256.proofs.Bounds.{BoundedRow-append, values_bounded}
 use Rattle.keys.specs.Refusals.{refusal_number, refusal_place, refusal_spelled}
 use Rattle.keys.specs.declared.refusal.Refusal.{Refusal}
 use Rattle.keys.specs.declared.refusal.Refusal.TheVariants.{Levels as TooManyLevels, Store as BadStore, NextKey, Bits, Line}
@@ -103,10 +103,10 @@ promised h s Slot t o a = tt
 promised h s State t o a = tt
 
 -- the numbers of a signature that was read are numbers of the program
-read_bounded : (g : ReadSignature) → Bounded (numbers (signature_of g))
+read_bounded : (g : ReadSignature) → BoundedRow (numbers (signature_of g))
 read_bounded g =
-    let rest = Bounded-append (map value_of (vec_items g.others)) (map value_of (vec_items g.path)) (values_bounded (vec_items g.others)) (values_bounded (vec_items g.path)) in
-    Bounded-append (map value_of (vec_items g.parts)) _ (values_bounded (vec_items g.parts)) rest
+    let rest = BoundedRow-append (map value_of (vec_items g.others)) (map value_of (vec_items g.path)) (values_bounded (vec_items g.others)) (values_bounded (vec_items g.path)) in
+    BoundedRow-append (map value_of (vec_items g.parts)) _ (values_bounded (vec_items g.parts)) rest
 
 -- at SHA-256 with byte strings
 pub promised_strings : (s : Session) (c : Command) (t : SignatureLines) (o : Option (String Global)) → Promised row_hash s c t o → PromisedStrings s c t o

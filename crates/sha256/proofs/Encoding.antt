@@ -3,7 +3,7 @@ use Rattle.std.proofs.Common.{◌≡◌, ℕ, ◌%◌, ◌^◌, List, [], ◌∷
 use Rattle.hash.specs.Value.{worth, bytes_of}
 use Rattle.hash.proofs.Joined.{told_by_pieces}
 use Rattle.hash.proofs.Numbers.{length-bytes, worth-bytes}
-use Rattle.sha256.specs.Rows.{row_bytes, Bounded, BytesTell}
+use Rattle.sha256.specs.Rows.{row_bytes, BoundedRow, BytesTell}
 
 length-bytes_of : (x : ℕ) → length (bytes_of x) ≡ 32
 unfolding bytes_of
@@ -22,7 +22,7 @@ pub rests_told : (xs ys : List ℕ) → row_bytes xs ≡ row_bytes ys → map re
 rests_told xs ys e = told_by_pieces bytes_of rest 31 length-bytes_of bytes_of_told xs ys e
 
 -- and all of each that is small enough
-rests : (xs : List ℕ) → Bounded xs → map rest xs ≡ xs
+rests : (xs : List ℕ) → BoundedRow xs → map rest xs ≡ xs
 rests [] b = refl
 rests (x ∷ xs) b =
     let head : rest x ≡ x = mod-eq_of_lt (b x (inl refl)) in

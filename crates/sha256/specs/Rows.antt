@@ -15,9 +15,9 @@ unfoldable pub row_hash : Mix
 row_hash xs = worth (sha256 (row_bytes xs))
 
 -- a row of numbers that thirty-two bytes can hold
-abbrev pub Bounded : List ℕ → Type 0
-Bounded xs = (x : ℕ) → In x xs → x < 2 ^ 256
+abbrev pub BoundedRow : List ℕ → Type 0
+BoundedRow xs = (x : ℕ) → In x xs → x < 2 ^ 256
 
 -- rows of such numbers that are the same bytes are the same row
 abbrev pub BytesTell : Type 0
-BytesTell = (xs ys : List ℕ) → Bounded xs → Bounded ys → row_bytes xs ≡ row_bytes ys → xs ≡ ys
+BytesTell = (xs ys : List ℕ) → BoundedRow xs → BoundedRow ys → row_bytes xs ≡ row_bytes ys → xs ≡ ys
