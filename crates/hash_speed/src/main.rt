@@ -1,0 +1,38 @@
+// Hashes as much as each line of standard input says, and prints a digest for each and never a time: bench/speed.py takes the time from outside.
+//     blocks N: the hash value after compressing one block N times
+//     bytes N: the SHA-256 of N bytes, taken in as a stream
+// A line that is neither is answered by `?`.
+#![tactic(auto)]
+
+mod job;
+mod work;
+
+use job::{Job, read_job};
+use std::io;
+use std::io::{BufRead, BufReader};
+use work::{compress_again, digest_of_bytes, pattern};
+
+fn answer(rt: &HostRuntime, line: &[u8]) -> io::Result<()> {
+    match str::from_utf8(line).ok().and_then(read_job) {
+        Some(Job::Blocks(count)) => {
+            for word in compress_again(&pattern(), count) {
+                print!(rt; "{word:08x}")?;
+            }
+        }
+        Some(Job::Bytes(count)) => {
+            for byte in digest_of_bytes(&pattern(), count) {
+                print!(rt; "{byte:02x}")?;
+            }
+        }
+        None => print!(rt; "?")?,
+    }
+    println!(rt; "")
+}
+
+fn main(rt: HostRuntime) -> io::Result<()> {
+    let input = BufReader::new(rt.alloc(), rt.stdin())?;
+    for line in input.split(rt.alloc(), b'\n') {
+        answer(&rt, &line?)?;
+    }
+    Ok(())
+}
