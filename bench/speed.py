@@ -16,7 +16,7 @@ HERE = os.path.abspath(sys.path[0])
 CORE = str(max(os.sched_getaffinity(0)))
 BLOCKS = 400000
 LEVELS, BITS, SEED = 10, 256, 17
-# by the second account, tests/model.py
+# as in tests/examples.py, where neither our program nor the second account worked it out
 ROOT = "0706261f1f47eda949d420f74f6393c03db54d09ebba3eadc3c55b64ce3fc852"
 # OpenSSL without the processor's instructions for SHA, which neither our program nor plain C uses
 ENVIRONMENT = dict(os.environ, OPENSSL_ia32cap=":~0x20000000")
