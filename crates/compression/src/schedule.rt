@@ -1,5 +1,5 @@
 // The message schedule: the sixty-four words that a block gives.
-ghost use Rattle.std.specs.Prelude.{◌≡◌, ℕ, List, take};
+ghost use Rattle.std.specs.Prelude.{◌≡◌, ℕ, ◌+◌, ◌≤◌, List, take};
 ghost use Rattle.compression.specs.Fips180.{words, word_after, schedule};
 
 use crate::words::{small_sigma_0, small_sigma_1};
@@ -29,11 +29,22 @@ pub fn next_word(w16: u32, w15: u32, w7: u32, w2: u32) -> u32
         .wrapping_add(w16)
 }
 
+// Writes the eight words of the schedule from word t + 16 on. Eight in a function, so that the compiler writes them one behind the other and each has the word two places before it at hand.
+fn eight_words(w: &mut [u32; 64], t: usize)
+    requires { t + 8 ≤ 48 }
+    ensures { (b : List ℕ) → take (t + 16) w.old ≡ schedule t b → take (t + 8 + 16) w.new ≡ schedule (t + 8) b }
+{
+    for j in 0..8 {
+        let i = t + j;
+        w[i + 16] = next_word(w[i], w[i + 1], w[i + 9], w[i + 14]);
+    }
+}
+
 // Writes the words behind those of the block.
 pub fn expand(w: &mut [u32; 64])
     ensures { (b : List ℕ) → take 16 w.old ≡ words 16 b → w.new ≡ schedule 48 b }
 {
-    for t in 0..48 {
-        w[t + 16] = next_word(w[t], w[t + 1], w[t + 9], w[t + 14]);
+    for i in 0..6 {
+        eight_words(w, 8 * i);
     }
 }
