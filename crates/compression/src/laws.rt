@@ -15,6 +15,7 @@ pub fn initial_words_are_square_roots()
     ensures { RootsOf 2 8 H₀ }
 {}
 
+// The standard's example.
 #[tactic(auto, using(crate::proofs::Examples::abc))]
 pub fn digest_of_abc()
     ensures { DigestOfAbc }
