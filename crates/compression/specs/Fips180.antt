@@ -20,16 +20,16 @@ ch x y z = bit_xor (bit_and x y) (bit_and (bit_not w32 x) z)
 unfoldable pub maj : ℕ → ℕ → ℕ → ℕ
 maj x y z = bit_xor (bit_xor (bit_and x y) (bit_and x z)) (bit_and y z)
 
-unfoldable pub Σ₀ : ℕ → ℕ
+abbrev pub Σ₀ : ℕ → ℕ
 Σ₀ x = bit_xor (bit_xor (rotr 2 x) (rotr 13 x)) (rotr 22 x)
 
-unfoldable pub Σ₁ : ℕ → ℕ
+abbrev pub Σ₁ : ℕ → ℕ
 Σ₁ x = bit_xor (bit_xor (rotr 6 x) (rotr 11 x)) (rotr 25 x)
 
-unfoldable pub σ₀ : ℕ → ℕ
+abbrev pub σ₀ : ℕ → ℕ
 σ₀ x = bit_xor (bit_xor (rotr 7 x) (rotr 18 x)) (shr 3 x)
 
-unfoldable pub σ₁ : ℕ → ℕ
+abbrev pub σ₁ : ℕ → ℕ
 σ₁ x = bit_xor (bit_xor (rotr 17 x) (rotr 19 x)) (shr 10 x)
 
 -- 4.2.2: the words of the rounds

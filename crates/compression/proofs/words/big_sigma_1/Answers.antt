@@ -1,8 +1,0 @@
-use Rattle.std.proofs.Common.{arith}
-use Rattle.compression.proofs.Bits.{rotated_three}
-use Rattle.compression.specs.Fips180.{Σ₁}
-use Rattle.compression.proofs.words.big_sigma_1.Goals as goal
-
-pub returns : goal.returns
-unfolding Σ₁
-returns c = rw (c.rotate_right-3.ensures, c.rotate_right-2.ensures, c.rotate_right.ensures) (rotated_three c.args.x 6 5 14 (omega arith) (omega arith))
