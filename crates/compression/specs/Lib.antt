@@ -2,3 +2,4 @@
 pub mod Constants
 pub mod Examples
 pub mod Fips180
+pub mod Laws

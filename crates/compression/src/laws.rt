@@ -1,7 +1,8 @@
-// What holds of the definitions: where the constants come from, and an example of the standard's.
+// What holds of the definitions: where the constants come from, that the padding is as short as it can be, and an example of the standard's.
 ghost use Rattle.compression.specs.Constants.{RootsOf};
 ghost use Rattle.compression.specs.Examples.{DigestOfAbc};
 ghost use Rattle.compression.specs.Fips180.{K, H₀};
+ghost use Rattle.compression.specs.Laws.{FewestZeros};
 
 // The words of the rounds come from the cube roots of the first 64 primes.
 #[tactic(auto, using(crate::proofs::Roots::cube_roots))]
@@ -13,6 +14,12 @@ pub fn round_words_are_cube_roots()
 #[tactic(auto, using(crate::proofs::Roots::square_roots))]
 pub fn initial_words_are_square_roots()
     ensures { RootsOf 2 8 H₀ }
+{}
+
+// The padding fills the last block, with as few zeros as it can.
+#[tactic(auto, using(crate::proofs::Padding::fewest_zeros_lem))]
+pub fn fewest_zeros()
+    ensures { FewestZeros }
 {}
 
 // The standard's example.
