@@ -52,10 +52,10 @@ line_read items word rest line None e none = λ vs f.
 line_read items word rest line (Some v) e s = e ∙ ap (λ (t : List ℕ). word ++ t) (s.1 ∙ (words_numbers s.0 (items v) s.2 ∙ by_values (items v)))
 
 -- what the answer of a reader of numbers says of the line behind it
-pub line_some : {A : Type 0} {o : Option A} (items : A → List ℕ) (word line cs : List ℕ) (x : A) → line ≡ cs → o ≡ Some x →
-    MatchOption o ((vs : List ℕ) → line ≡ numbers_line word vs → ⊥) (λ v. line ≡ numbers_line word (items v)) → (vs : List ℕ) × (cs ≡ numbers_line word vs)
-line_some items word line cs x d e f = (items x, sym d ∙ MatchOption-at_some _ _ x e f)
+pub line_some : {A : Type 0} {o : Option A} (items : A → List ℕ) (word line : List ℕ) (x : A) → o ≡ Some x →
+    MatchOption o ((vs : List ℕ) → line ≡ numbers_line word vs → ⊥) (λ v. line ≡ numbers_line word (items v)) → (vs : List ℕ) × (line ≡ numbers_line word vs)
+line_some items word line x e f = (items x, MatchOption-at_some _ _ x e f)
 
-pub line_none : {A : Type 0} {o : Option A} (items : A → List ℕ) (word line cs : List ℕ) → line ≡ cs → o ≡ None →
-    MatchOption o ((vs : List ℕ) → line ≡ numbers_line word vs → ⊥) (λ v. line ≡ numbers_line word (items v)) → (vs : List ℕ) × (cs ≡ numbers_line word vs) → ⊥
-line_none items word line cs d e f r = MatchOption-at_none _ _ e f r.0 (d ∙ r.1)
+pub line_none : {A : Type 0} {o : Option A} (items : A → List ℕ) (word line : List ℕ) → o ≡ None →
+    MatchOption o ((vs : List ℕ) → line ≡ numbers_line word vs → ⊥) (λ v. line ≡ numbers_line word (items v)) → (vs : List ℕ) × (line ≡ numbers_line word vs) → ⊥
+line_none items word line e f r = MatchOption-at_none _ _ e f r.0 r.1

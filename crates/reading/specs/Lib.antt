@@ -1,4 +1,5 @@
 -- The definitions that the contracts of this crate and of the one above it cite.
+pub mod Newlines
 pub mod Reading
 pub mod Spaced
 pub mod Spelling

@@ -113,7 +113,7 @@ impl Session {
         heap: Global,
         root: &Number,
         text: &[u8],
-        lines: &SignatureLines,
+        lines: &SignatureLines<'_>,
     ) -> Result<String, AllocError>
         ensures { IfOk result (λ s. (g : Result ReadSignature Refusal) × SignatureRead lines.now g × (string_bytes s ≡ look_answer H.mix self.now (value_of root.now) text.now g)) }
     {
@@ -132,7 +132,7 @@ impl Session {
         &mut self,
         heap: Global,
         command: Command,
-        lines: &SignatureLines,
+        lines: &SignatureLines<'_>,
     ) -> Result<Option<String>, AllocError>
         ensures session { MatchResult result (λ _. Executed self.old command self.new) (λ _. Failed self.old self.new) }
         ensures counts { Counted self.old command self.new }
@@ -147,7 +147,7 @@ impl Session {
         &mut self,
         heap: Global,
         command: Command,
-        lines: &SignatureLines,
+        lines: &SignatureLines<'_>,
     ) -> Result<Option<String>, AllocError>
         ensures session { MatchResult result (λ _. Executed self.old command self.new) (λ _. Failed self.old self.new) }
         ensures counts { Counted self.old command self.new }

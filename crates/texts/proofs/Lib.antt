@@ -1,3 +1,4 @@
 -- The lemmas of this crate.
 mod Commanded
 mod Cuts
+pub mod Looks

@@ -1,7 +1,7 @@
 -- How the lines that ask for something are written. Assumes nothing: these are definitions.
-use Rattle.std.specs.Prelude.{◌≡◌, ℕ, ◌^◌, Bool, true, false, List, ◌∷◌, ◌++◌, map, Some, vec_items, codes}
+use Rattle.std.specs.Prelude.{◌≡◌, ℕ, ◌^◌, Bool, eqb, List, ◌∷◌, ◌++◌, map, Some, vec_items, codes}
 use Rattle.tree.specs.declared.own.Tree.{Tree}
-use Rattle.std.specs.List.{flat_map}
+use Rattle.std.specs.List.{flat_map, starts_with}
 use Rattle.hash.specs.Value.{value_of}
 use Rattle.hash.specs.Hex.{hex}
 use Rattle.reading.specs.Spelling.{decimal_of}
@@ -22,16 +22,9 @@ LevelsSpelled cs t =
 abbrev pub StoreSpelled : List ℕ → List ℕ → Type 0
 StoreSpelled cs vs = (ws : List (List ℕ)) × (cs ≡ flat_map (λ w. 32 ∷ w) ws) × (map (decimal_of (2 ^ 32)) ws ≡ map (λ v. Some v) vs)
 
--- the four lines behind a `look` belong to it
-abbrev pub takes_lines : Command → Bool
-takes_lines (Store v) = false
-takes_lines (Levels v) = false
-takes_lines Root = false
-takes_lines (Sign t) = false
-takes_lines (Look r t) = true
-takes_lines (Power k) = false
-takes_lines Slot = false
-takes_lines State = false
+-- the four lines behind a line belong to it: its first word is `look`, alone or with a space behind it
+abbrev pub takes_four : List ℕ → Bool
+takes_four cs = starts_with eqb (cs ++ codes " ") (codes "look ")
 
 -- a line is a command, written out
 abbrev pub Spelled : List ℕ → Command → Type 0

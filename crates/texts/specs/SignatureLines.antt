@@ -1,5 +1,5 @@
 -- The four lines of a signature, as they are read. Assumes nothing: these are definitions.
-use Rattle.std.specs.Prelude.{◌≡◌, ℕ, zero, suc, ◌+◌, ◌^◌, ◌<◌, min, List, ◌++◌, map, Some, Ok, Err, vec_items, codes, Result}
+use Rattle.std.specs.Prelude.{◌≡◌, ℕ, zero, suc, ◌+◌, ◌^◌, ◌<◌, min, List, [], ◌++◌, map, get_or, Some, Ok, Err, vec_items, codes, Result}
 use Rattle.hash.specs.Value.{value_of}
 use Rattle.keys.specs.declared.refusal.Refusal.{Refusal}
 use Rattle.keys.specs.declared.refusal.Refusal.TheVariants.{Line}
@@ -8,6 +8,15 @@ use Rattle.signatures.specs.Lines.{numbers_line}
 use Rattle.reading.specs.Spelling.{decimal_of}
 use Rattle.texts.specs.declared.signature.ReadSignature.{ReadSignature}
 use Rattle.texts.specs.declared.signature.SignatureLines.{SignatureLines}
+
+-- one of some lines, counted from 0; one that is not there is empty
+abbrev pub line_at : List (List ℕ) → ℕ → List ℕ
+line_at ls k = get_or ls k []
+
+-- the first four of some lines, of which the first has that number
+abbrev pub LinesAre : SignatureLines → ℕ → List (List ℕ) → Type 0
+LinesAre t first ls =
+    (t.first ≡ first) × (t.key.now ≡ line_at ls 0) × (t.parts.now ≡ line_at ls 1) × (t.others.now ≡ line_at ls 2) × (t.path.now ≡ line_at ls 3)
 
 -- the number of the line that comes so many after another; numbers of lines end at 2^64 - 1
 abbrev pub line_after : ℕ → ℕ → ℕ
@@ -30,17 +39,17 @@ KeySpelled cs k = (ds : List ℕ) × (cs ≡ codes "key " ++ ds) × (decimal_of 
 -- the lines are those of a signature
 abbrev pub LinesOf : Signature → SignatureLines → Type 0
 LinesOf g t =
-    KeySpelled (vec_items t.key) g.key
-    × (vec_items t.parts ≡ numbers_line (codes "parts") g.parts)
-    × (vec_items t.others ≡ numbers_line (codes "others") g.others)
-    × (vec_items t.path ≡ numbers_line (codes "path") g.path)
+    KeySpelled t.key.now g.key
+    × (t.parts.now ≡ numbers_line (codes "parts") g.parts)
+    × (t.others.now ≡ numbers_line (codes "others") g.others)
+    × (t.path.now ≡ numbers_line (codes "path") g.path)
 
 -- that line k can be read
 abbrev pub Readable : SignatureLines → ℕ → Type 0
-Readable t zero = (k : ℕ) × KeySpelled (vec_items t.key) k
-Readable t (suc zero) = (vs : List ℕ) × (vec_items t.parts ≡ numbers_line (codes "parts") vs)
-Readable t (suc (suc zero)) = (vs : List ℕ) × (vec_items t.others ≡ numbers_line (codes "others") vs)
-Readable t (suc (suc (suc k))) = (vs : List ℕ) × (vec_items t.path ≡ numbers_line (codes "path") vs)
+Readable t zero = (k : ℕ) × KeySpelled t.key.now k
+Readable t (suc zero) = (vs : List ℕ) × (t.parts.now ≡ numbers_line (codes "parts") vs)
+Readable t (suc (suc zero)) = (vs : List ℕ) × (t.others.now ≡ numbers_line (codes "others") vs)
+Readable t (suc (suc (suc k))) = (vs : List ℕ) × (t.path.now ≡ numbers_line (codes "path") vs)
 
 -- the signature, or the refusal of the first line that cannot be read, by its number
 abbrev pub SignatureRead : SignatureLines → Result ReadSignature Refusal → Type 0

@@ -2,7 +2,7 @@
 ghost use Rattle.std.specs.Prelude.{◌≡◌, ℕ, List, ◌++◌, IfOk, codes, MatchOption, slice_index};
 ghost use Rattle.hash.specs.declared.number.Number.{Number};
 ghost use Rattle.tree.specs.declared.own.Tree.{Tree};
-ghost use Rattle.texts.specs.Commands.{DecimalBefore, LevelsSpelled, Spelled, takes_lines};
+ghost use Rattle.texts.specs.Commands.{DecimalBefore, LevelsSpelled, Spelled, takes_four};
 ghost use Rattle.reading.specs.Reading.{Reads};
 ghost use Rattle.hash.specs.Hex.{hex};
 
@@ -25,13 +25,11 @@ pub enum Command {
     State,
 }
 
-impl Command {
-    // Whether the four lines behind it belong to it. A test beside the lines and no `Option` of them, since a `look` whose lines are missing is refused by the number of the first.
-    pub fn takes_lines(&self) -> bool
-        ensures { result ≡ takes_lines self.now }
-    {
-        matches!(self, Command::Look(_, _))
-    }
+// Whether a line's first word is `look`, so that the next four lines belong to it, whatever it and they hold.
+pub fn takes_four(line: &[u8]) -> bool
+    ensures { result ≡ takes_four line.now }
+{
+    line == b"look".as_slice() || line.starts_with(b"look ")
 }
 
 // A decimal before a word that begins with a space, and what follows that word. No `Reads`, since it is two values.

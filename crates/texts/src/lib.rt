@@ -6,5 +6,5 @@ pub mod command;
 pub mod signature;
 
 pub use bits::{digest, text_bits};
-pub use command::{Command, read_command};
+pub use command::{Command, read_command, takes_four};
 pub use signature::{ReadError, ReadSignature, SignatureLines, read_key};

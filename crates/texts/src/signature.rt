@@ -1,10 +1,10 @@
 // The four lines of a signature.
-ghost use Rattle.std.specs.Prelude.{◌≡◌, [], Ok, Err, IfOk, IsErrOf};
+ghost use Rattle.std.specs.Prelude.{◌≡◌, map, Ok, Err, vec_items, IfOk, IsErrOf};
 ghost use Rattle.keys.specs.declared.refusal.Refusal.{Refusal};
 ghost use Rattle.keys.specs.declared.refusal.Refusal.TheVariants.{Line};
 ghost use Rattle.signatures.specs.Views.{viewed};
 ghost use Rattle.reading.specs.Reading.{Reads};
-ghost use Rattle.texts.specs.SignatureLines.{line_after, signature_of, KeySpelled, SignatureRead};
+ghost use Rattle.texts.specs.SignatureLines.{line_at, line_after, signature_of, KeySpelled, LinesAre, SignatureRead};
 ghost use Rattle.texts.specs.declared.signature.ReadError.TheVariants.{Refused, Memory};
 
 use hash::Number;
@@ -65,28 +65,37 @@ impl From<AllocError> for ReadError {
     }
 }
 
-// The four lines that follow a `look`; one that is not there is empty. `first` is the number of the first.
-#[derive(Drop)]
-pub struct SignatureLines {
-    pub first: u64,
-    pub key: Vec<u8>,
-    pub parts: Vec<u8>,
-    pub others: Vec<u8>,
-    pub path: Vec<u8>,
+// A line, by its number from 0; one that is not there is empty.
+fn line_or_empty(lines: &[Vec<u8>], number: usize) -> &[u8]
+    ensures { result.now ≡ line_at (map vec_items lines.now) number }
+{
+    match lines.get(number) {
+        Some(line) => line,
+        None => &[],
+    }
 }
 
-impl SignatureLines {
-    // No line, where the first would have that number.
-    pub fn none(heap: Global, first: u64) -> SignatureLines
-        ensures first { result.first ≡ first }
-        ensures empty { (result.key.items ≡ []) × (result.parts.items ≡ []) × (result.others.items ≡ []) × (result.path.items ≡ []) }
+// The four lines that follow a `look`; one that is not there is empty. `first` is the number of the first.
+#[derive(Clone, Copy)]
+pub struct SignatureLines<'a> {
+    pub first: u64,
+    pub key: &'a [u8],
+    pub parts: &'a [u8],
+    pub others: &'a [u8],
+    pub path: &'a [u8],
+}
+
+impl SignatureLines<'_> {
+    // The first four of some lines, the first of which has that number; one that is not there is empty.
+    pub fn new<'a>(first: u64, lines: &'a [Vec<u8>]) -> SignatureLines<'a>
+        ensures { LinesAre result first (map vec_items lines.now) }
     {
         SignatureLines {
             first,
-            key: Vec::new(heap),
-            parts: Vec::new(heap),
-            others: Vec::new(heap),
-            path: Vec::new(heap),
+            key: line_or_empty(lines, 0),
+            parts: line_or_empty(lines, 1),
+            others: line_or_empty(lines, 2),
+            path: line_or_empty(lines, 3),
         }
     }
 
@@ -102,10 +111,10 @@ impl SignatureLines {
         ensures read { IfOk result (λ s. SignatureRead self.now (Ok s)) }
         ensures refused { (r : Refusal) → IsErrOf result (Refused r) → SignatureRead self.now (Err r) }
     {
-        let key = read_key(&self.key).ok_or(self.refusal(0))?;
-        let parts = read_numbers(heap, b"parts", &self.parts)?.ok_or(self.refusal(1))?;
-        let others = read_numbers(heap, b"others", &self.others)?.ok_or(self.refusal(2))?;
-        let path = read_numbers(heap, b"path", &self.path)?.ok_or(self.refusal(3))?;
+        let key = read_key(self.key).ok_or(self.refusal(0))?;
+        let parts = read_numbers(heap, b"parts", self.parts)?.ok_or(self.refusal(1))?;
+        let others = read_numbers(heap, b"others", self.others)?.ok_or(self.refusal(2))?;
+        let path = read_numbers(heap, b"path", self.path)?.ok_or(self.refusal(3))?;
         Ok(ReadSignature {
             key,
             parts,

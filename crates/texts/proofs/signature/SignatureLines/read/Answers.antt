@@ -1,10 +1,10 @@
 -- The lines before the one that is refused were read.
-use Rattle.std.proofs.Common.{◌≡◌, ℕ, List, Ok, Err, None, Some, Option, Result, IsErrOf, IsErrAnd, map, vec_items, codes, sym, ◌∙◌, subst, arith, below_none, below_more}
+use Rattle.std.proofs.Common.{◌≡◌, Ok, Err, None, Some, Option, Result, IsErrOf, IsErrAnd, map, vec_items, codes, ◌∙◌, arith, below_none, below_more}
 use Rattle.std.specs.Option.{ok_or}
 use Rattle.std.proofs.lemmas.Option.{MatchOption-at_none, MatchOption-at_some}
 use Rattle.hash.specs.Value.{value_of}
 use Rattle.keys.specs.declared.refusal.Refusal.{Refusal}
-use Rattle.texts.specs.SignatureLines.{KeySpelled, Readable}
+use Rattle.texts.specs.SignatureLines.{Readable}
 use Rattle.texts.specs.declared.signature.ReadError.{ReadError}
 use Rattle.texts.specs.declared.signature.ReadError.TheVariants.{Refused}
 use Rattle.reading.proofs.Lines.{line_some, line_none}
@@ -21,7 +21,7 @@ pub returns-in_err-key-clause-refused : goal.returns-in_err-key-clause-refused
 returns-in_err-key-clause-refused c r e =
     let none = c.in_err-key.ensures.ok_part in
     let is = handed_on c.from_residual.result c.read_key.result c.in_err-key.field-0.0 c.refusal.result r c.in_err-key.ensures.value none c.from_residual.ensures.1 e in
-    (0, omega arith, below_none (Readable c.args.self.now), λ k. MatchOption-at_none _ _ none c.read_key.ensures k.0 (subst (λ (cs : List ℕ). KeySpelled cs k.0) (sym c.deref.ensures.value) k.1), is ∙ c.refusal.ensures)
+    (0, omega arith, below_none (Readable c.args.self.now), λ k. MatchOption-at_none _ _ none c.read_key.ensures k.0 k.1, is ∙ c.refusal.ensures)
 
 pub returns-in_err-path-clause-refused : goal.returns-in_err-path-clause-refused
 returns-in_err-path-clause-refused c r e =
@@ -29,9 +29,9 @@ returns-in_err-path-clause-refused c r e =
     let none = c.in_err-path.ensures.ok_part in
     let is = handed_on c.from_residual-in_err-path.result c.in_ok-read_numbers-3.field-0 c.in_err-path.field-0.0 c.refusal-4.result r c.in_err-path.ensures.value none c.from_residual-in_err-path.ensures.1 e in
     let key = MatchOption-at_some _ _ c.in_ok-key.key c.in_ok-key.ensures.ok_part c.read_key.ensures in
-    let one = below_more (Readable t) 0 (below_none (Readable t)) (c.in_ok-key.key, subst (λ (cs : List ℕ). KeySpelled cs c.in_ok-key.key) c.deref.ensures.value key) in
+    let one = below_more (Readable t) 0 (below_none (Readable t)) (c.in_ok-key.key, key) in
     let two = below_more (Readable t) 1 one
-    (line_some (λ v. map value_of (vec_items v)) (codes "parts") c.deref-2.result.now (vec_items t.parts) c.in_ok-parts.parts c.deref-2.ensures.value c.in_ok-parts.ensures.ok_part c.in_ok-read_numbers.ensures) in
+    (line_some (λ v. map value_of (vec_items v)) (codes "parts") (t.parts.now) c.in_ok-parts.parts c.in_ok-parts.ensures.ok_part c.in_ok-read_numbers.ensures) in
     let three = below_more (Readable t) 2 two
-    (line_some (λ v. map value_of (vec_items v)) (codes "others") c.deref-3.result.now (vec_items t.others) c.in_ok-others.others c.deref-3.ensures.value c.in_ok-others.ensures.ok_part c.in_ok-read_numbers-2.ensures) in
-    (3, omega arith, three, line_none (λ v. map value_of (vec_items v)) (codes "path") c.deref-4.result.now (vec_items t.path) c.deref-4.ensures.value none c.in_ok-read_numbers-3.ensures, is ∙ c.refusal-4.ensures)
+    (line_some (λ v. map value_of (vec_items v)) (codes "others") (t.others.now) c.in_ok-others.others c.in_ok-others.ensures.ok_part c.in_ok-read_numbers-2.ensures) in
+    (3, omega arith, three, line_none (λ v. map value_of (vec_items v)) (codes "path") (t.path.now) none c.in_ok-read_numbers-3.ensures, is ∙ c.refusal-4.ensures)
