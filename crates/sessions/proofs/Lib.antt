@@ -1,2 +1,2 @@
 -- The lemmas of this crate.
-mod Promised
+pub mod Promised

@@ -1,0 +1,5 @@
+-- The lemmas of this crate.
+mod Cuts
+mod Progress
+mod Promised
+mod Turned

@@ -1,0 +1,108 @@
+-- A run so far: what was read is cut into turns, each was answered, and the rest is still to come.
+use Rattle.std.proofs.Common.{◌≡◌, ℕ, ◌<◌, Bool, true, false, List, [], ◌∷◌, ◌++◌, map, length, None, Some, Option, sym, refl, ap, ◌∙◌, subst, arith, append_assoc, append-nil}
+use Rattle.std.specs.List.{flat_map}
+use Rattle.std.proofs.lemmas.Bool.{cond-true, cond-false}
+use Rattle.std.proofs.lemmas.List.{map-append}
+use Rattle.reading.specs.Newlines.{lines_of}
+use Rattle.texts.specs.SignatureLines.{line_after}
+use Rattle.sessions.specs.declared.session.Session.{Session}
+use Rattle.runs.specs.Turns.{whole, last_turn, turns_from, turns_of, Turn, bytes_printed}
+use Rattle.runs.specs.Steps.{Turned, Ran, Fresh, taken, EndsTurn, Stepped, Finished}
+use Rattle.runs.specs.Runs.{LineRead, Run}
+use Rattle.runs.specs.declared.program.Program.{Program}
+use Rattle.runs.proofs.Promised.{promised}
+
+abbrev pub typed_of : Turn → List (List ℕ)
+typed_of t = t.typed
+
+abbrev pub shown_of : Turn → List ℕ
+shown_of t = bytes_printed t.printed
+
+-- one turn more at the end
+pub ran_more : (ts : List Turn) (n n₁ : ℕ) (s s₁ s₂ : Session) (t : Turn) → Ran n s ts n₁ s₁ → Turned n₁ s₁ t s₂ → Ran n s (ts ++ (t ∷ [])) (line_after n₁ (length t.typed)) s₂
+unfolding Ran
+ran_more [] n n₁ s s₁ s₂ t r turned =
+    (s₂, subst (λ (x : Session). Turned n x t s₂) r.1 (subst (λ (k : ℕ). Turned k s₁ t s₂) r.0 turned), (ap (λ (k : ℕ). line_after k (length t.typed)) r.0, refl))
+ran_more (u ∷ ts) n n₁ s s₁ s₂ t (s₃, first, rest) turned = (s₃, first, ran_more ts (line_after n (length u.typed)) n₁ s₃ s₁ s₂ t rest turned)
+
+-- what is known of a run where some of the input is left
+pub record Progress (input left printed : List ℕ) (p : Program) : Type 0 where
+  pub turns : List Turn
+  pub cut : turns_of (lines_of input) ≡ map typed_of turns ++ turns_from (taken p) (lines_of left)
+  pub shown : printed ≡ flat_map shown_of turns
+  pub ran : (s : Session) × Fresh s × Ran 0 s turns p.number p.session
+
+pub begun : (input : List ℕ) (p : Program) → Fresh p.session → taken p ≡ [] → p.number ≡ 0 → Progress input input [] p
+unfolding Ran
+begun input p fresh none zero =
+    record {
+      turns = [];
+      cut = ap (λ (ls : List (List ℕ)). turns_from ls (lines_of input)) (sym none);
+      shown = refl;
+      ran = (p.session, fresh, (zero, refl));
+    }
+
+shown_more : (ts : List Turn) (t : Turn) → flat_map shown_of (ts ++ (t ∷ [])) ≡ flat_map shown_of ts ++ bytes_printed t.printed
+shown_more [] t = append-nil (bytes_printed t.printed)
+shown_more (u ∷ ts) t = ap (λ (cs : List ℕ). shown_of u ++ cs) (shown_more ts t) ∙ sym (append_assoc (shown_of u) (flat_map shown_of ts) (bytes_printed t.printed))
+
+-- a turn that ends, where it is what the lines begin with
+ended : (input left left₁ printed : List ℕ) (p p₁ : Program) (lines : List (List ℕ)) (o : Option (List ℕ)) → (g : Progress input left printed p) →
+    turns_from (taken p) (lines_of left) ≡ lines ∷ turns_from [] (lines_of left₁) → EndsTurn p lines o p₁ → Progress input left₁ (printed ++ bytes_printed o) p₁
+ended input left left₁ printed p p₁ lines o g next e =
+    let t : Turn = record { typed = lines; printed = o } in
+    let turn = map-append typed_of g.turns (t ∷ []) in
+    let back = ap (λ (xs : List (List (List ℕ))). xs ++ turns_from [] (lines_of left₁)) turn ∙ append_assoc (map typed_of g.turns) (lines ∷ []) (turns_from [] (lines_of left₁)) in
+    let none = ap (λ (ls : List (List ℕ)). map typed_of (g.turns ++ (t ∷ [])) ++ turns_from ls (lines_of left₁)) (sym e.1) in
+    record {
+      turns = g.turns ++ (t ∷ []);
+      cut = g.cut ∙ (ap (λ (xs : List (List (List ℕ))). map typed_of g.turns ++ xs) next ∙ (sym back ∙ none));
+      shown = ap (λ (cs : List ℕ). cs ++ bytes_printed o) g.shown ∙ sym (shown_more g.turns t);
+      ran = (g.ran.0, g.ran.1, subst (λ (k : ℕ). Ran 0 g.ran.0 (g.turns ++ (t ∷ [])) k p₁.session) (sym e.2) (ran_more g.turns 0 p.number g.ran.0 p.session p₁.session t g.ran.2 e.0));
+    }
+
+more_of : (b : Bool) (input left left₁ printed line : List ℕ) (p p₁ : Program) (o : Option (List ℕ)) → whole (taken p ++ (line ∷ [])) ≡ b → Progress input left printed p →
+    lines_of left ≡ line ∷ lines_of left₁ → Stepped p line o p₁ → Progress input left₁ (printed ++ bytes_printed o) p₁
+unfolding turns_from
+more_of true input left left₁ printed line p p₁ o w g read s =
+    let next = ap (turns_from (taken p)) read ∙ cond-true _ _ _ w in ended input left left₁ printed p p₁ (taken p ++ (line ∷ [])) o g next (s.ends w)
+more_of false input left left₁ printed line p p₁ o w g read s =
+    let k = s.waits w in
+    let next = ap (turns_from (taken p)) read ∙ (cond-false _ _ _ w ∙ ap (λ (ls : List (List ℕ)). turns_from ls (lines_of left₁)) (sym k.1)) in
+    record {
+      turns = g.turns;
+      cut = g.cut ∙ ap (λ (xs : List (List (List ℕ))). map typed_of g.turns ++ xs) next;
+      shown = ap (λ (x : Option (List ℕ)). printed ++ bytes_printed x) k.0 ∙ (append-nil printed ∙ g.shown);
+      ran = (g.ran.0, g.ran.1, subst (λ (n : ℕ). Ran 0 g.ran.0 g.turns n p₁.session) (sym k.3) (subst (λ (x : Session). Ran 0 g.ran.0 g.turns p.number x) (sym k.2) g.ran.2));
+    }
+
+-- one line more was read, and its answer printed
+pub more : (input left left₁ printed line : List ℕ) (p p₁ : Program) (o : Option (List ℕ)) → Progress input left printed p → lines_of left ≡ line ∷ lines_of left₁ → Stepped p line o p₁ →
+    Progress input left₁ (printed ++ bytes_printed o) p₁
+more input left left₁ printed line p p₁ o = more_of (whole (taken p ++ (line ∷ []))) input left left₁ printed line p p₁ o refl
+
+as_run : (input printed : List ℕ) (p : Program) → taken p ≡ [] → Progress input [] printed p → (ts : List Turn) × Run input printed ts
+unfolding turns_from
+as_run input printed p none g =
+    let rest = ap (λ (ls : List (List ℕ)). map typed_of g.turns ++ turns_from ls []) none ∙ append-nil (map typed_of g.turns) in
+    (g.turns, record {
+      typed = sym (g.cut ∙ rest);
+      shown = g.shown;
+      answered = (g.ran.0, p.number, p.session, g.ran.1, g.ran.2);
+      promised = promised g.turns 0 p.number g.ran.0 p.session g.ran.1 g.ran.2;
+    })
+
+done_of : (input printed : List ℕ) (ls : List (List ℕ)) (p p₁ : Program) (o : Option (List ℕ)) → taken p ≡ ls → Progress input [] printed p → Finished p o p₁ →
+    (ts : List Turn) × Run input (printed ++ bytes_printed o) ts
+unfolding turns_from
+done_of input printed [] p p₁ o e g f =
+    let k = f.nothing e in
+    as_run input (printed ++ bytes_printed o) p e (subst (λ (x : Option (List ℕ)). Progress input [] (printed ++ bytes_printed x) p) (sym k.0) (subst (λ (cs : List ℕ). Progress input [] cs p) (sym (append-nil printed)) g))
+done_of input printed (l ∷ ls) p p₁ o e g f =
+    let turn = f.ends (omega (arith, ap length e)) in
+    let next : turns_from (taken p) [] ≡ taken p ∷ [] = ap last_turn e ∙ ap (λ (x : List (List ℕ)). x ∷ []) (sym e) in
+    as_run input (printed ++ bytes_printed o) p₁ turn.1 (ended input [] [] printed p p₁ (taken p) o g next turn)
+
+-- the end of the input was read, and what is printed for that
+pub done : (input printed : List ℕ) (p p₁ : Program) (o : Option (List ℕ)) → Progress input [] printed p → Finished p o p₁ → (ts : List Turn) × Run input (printed ++ bytes_printed o) ts
+done input printed p p₁ o = done_of input printed (taken p) p p₁ o refl

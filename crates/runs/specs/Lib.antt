@@ -1,0 +1,5 @@
+-- The definitions that the contracts of this crate cite.
+pub mod Turns
+pub mod Steps
+pub mod Promises
+pub mod Runs

@@ -1,0 +1,9 @@
+// Whole runs of the program: lines in, lines out.
+#![tactic(auto)]
+
+pub mod program;
+pub mod streams;
+pub mod turns;
+
+pub use program::Program;
+pub use streams::run;
