@@ -3,3 +3,4 @@ pub mod Cuts
 mod Decimals
 mod Hexes
 pub mod Lines
+pub mod Pieces

@@ -2,4 +2,4 @@
 mod Cuts
 mod Progress
 mod Promised
-mod Turned
+

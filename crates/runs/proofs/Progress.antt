@@ -1,14 +1,18 @@
 -- A run so far: what was read is cut into turns, each was answered, and the rest is still to come.
-use Rattle.std.proofs.Common.{◌≡◌, ℕ, ◌<◌, Bool, true, false, List, [], ◌∷◌, ◌++◌, map, length, None, Some, Option, sym, refl, ap, ◌∙◌, subst, arith, append_assoc, append-nil}
+use Rattle.std.proofs.Common.{◌≡◌, ℕ, ◌<◌, Bool, true, false, List, [], ◌∷◌, ◌++◌, map, length, None, Some, Option, IfSome, MatchOption, sym, refl, ap, ◌∙◌, subst, arith, append_assoc, append-nil}
 use Rattle.std.specs.List.{flat_map}
 use Rattle.std.proofs.lemmas.Bool.{cond-true, cond-false}
 use Rattle.std.proofs.lemmas.List.{map-append}
+use Rattle.std.proofs.lemmas.Option.{same_Some}
+use Rattle.std.specs.Io.BufRead.{first_piece, drop_through, DropsThrough}
+use Rattle.std.specs.Io.KnownBytes.{Appends, IsAtEnd}
 use Rattle.reading.specs.Newlines.{lines_of}
+use Rattle.reading.proofs.Pieces.{next_line}
 use Rattle.texts.specs.SignatureLines.{line_after}
 use Rattle.sessions.specs.declared.session.Session.{Session}
 use Rattle.runs.specs.Turns.{whole, last_turn, turns_from, turns_of, Turn, bytes_printed}
 use Rattle.runs.specs.Steps.{Turned, Ran, Fresh, taken, EndsTurn, Stepped, Finished}
-use Rattle.runs.specs.Runs.{LineRead, Run}
+use Rattle.runs.specs.Runs.{Run}
 use Rattle.runs.specs.declared.program.Program.{Program}
 use Rattle.runs.proofs.Promised.{promised}
 
@@ -106,3 +110,40 @@ done_of input printed (l ∷ ls) p p₁ o e g f =
 -- the end of the input was read, and what is printed for that
 pub done : (input printed : List ℕ) (p p₁ : Program) (o : Option (List ℕ)) → Progress input [] printed p → Finished p o p₁ → (ts : List Turn) × Run input (printed ++ bytes_printed o) ts
 done input printed p p₁ o = done_of input printed (taken p) p p₁ o refl
+
+-- the same of bytes that may be known
+abbrev pub Known : (input left before now : Option (List ℕ)) → Program → Type 0
+Known input left before now p = IfSome input (λ xs. (printed : List ℕ) × Appends before now printed × MatchOption left ⊥ (λ ys. Progress xs ys printed p))
+
+appends_nothing : (a : Option (List ℕ)) → Appends a a []
+appends_nothing None = tt
+appends_nothing (Some xs) = sym (append-nil xs)
+
+appends_both : (a b c : Option (List ℕ)) (xs ys : List ℕ) → Appends a b xs → Appends b c ys → Appends a c (xs ++ ys)
+appends_both None b c xs ys p q = tt
+appends_both (Some x) None c xs ys p q = absurd p
+appends_both (Some x) (Some y) None xs ys p q = absurd q
+appends_both (Some x) (Some y) (Some z) xs ys p q = q ∙ (ap (λ (l : List ℕ). l ++ ys) p ∙ append_assoc x xs ys)
+
+pub known_begun : (input left now : Option (List ℕ)) (p : Program) → left ≡ input → Fresh p.session → taken p ≡ [] → p.number ≡ 0 → Known input left now now p
+known_begun None left now p e fresh none zero = tt
+known_begun (Some xs) None now p e fresh none zero = absurd cc
+known_begun (Some xs) (Some ys) now p e fresh none zero =
+    ([], appends_nothing now, subst (λ (l : List ℕ). Progress xs l [] p) (sym (same_Some _ _ e)) (begun xs p fresh none zero))
+
+pub known_more : (input left left₁ before now now₁ : Option (List ℕ)) (p p₁ : Program) (line : List ℕ) (o : Option (List ℕ)) → Known input left before now p →
+    IfSome left (λ xs. (0 < length xs) × (line ≡ first_piece 10 xs)) → DropsThrough left left₁ 10 → Stepped p line o p₁ → Appends now now₁ (bytes_printed o) → Known input left₁ before now₁ p₁
+known_more None left left₁ before now now₁ p p₁ line o k read dropped s a = tt
+known_more (Some xs) None left₁ before now now₁ p p₁ line o k read dropped s a = absurd k.2
+known_more (Some xs) (Some ys) None before now now₁ p p₁ line o k read dropped s a = absurd cc
+known_more (Some xs) (Some ys) (Some zs) before now now₁ p p₁ line o k read dropped s a =
+    let rest = same_Some _ _ dropped in
+    let next = next_line ys read.0 ∙ (ap (λ (l : List ℕ). l ∷ lines_of (drop_through 10 ys)) (sym read.1) ∙ ap (λ (l : List ℕ). line ∷ lines_of l) (sym rest)) in
+    (k.0 ++ bytes_printed o, appends_both before now now₁ k.0 (bytes_printed o) k.1 a, more xs ys zs k.0 line p p₁ o k.2 next s)
+
+pub known_done : (input left before now now₁ : Option (List ℕ)) (p p₁ : Program) (o : Option (List ℕ)) → Known input left before now p → IsAtEnd left → Finished p o p₁ → Appends now now₁ (bytes_printed o) →
+    IfSome input (λ xs. (printed : List ℕ) × (ts : List Turn) × Appends before now₁ printed × Run xs printed ts)
+known_done None left before now now₁ p p₁ o k end f a = tt
+known_done (Some xs) None before now now₁ p p₁ o k end f a = absurd k.2
+known_done (Some xs) (Some ys) before now now₁ p p₁ o k end f a =
+    let r = done xs k.0 p p₁ o (subst (λ (l : List ℕ). Progress xs l k.0 p) end k.2) f in (k.0 ++ bytes_printed o, r.0, appends_both before now now₁ k.0 (bytes_printed o) k.1 a, r.1)

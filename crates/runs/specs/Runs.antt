@@ -1,18 +1,11 @@
 -- A whole run: the bytes that are read and those that are printed. Assumes nothing: these are definitions.
-use Rattle.std.specs.Prelude.{◌≡◌, ℕ, List, [], ◌∷◌, map, ⊤, Some, None, Option}
+use Rattle.std.specs.Prelude.{◌≡◌, ℕ, List, map}
 use Rattle.std.specs.List.{flat_map}
 use Rattle.reading.specs.Newlines.{lines_of}
 use Rattle.sessions.specs.declared.session.Session.{Session}
 use Rattle.runs.specs.Turns.{turns_of, Turn, bytes_printed}
 use Rattle.runs.specs.Steps.{Ran, Fresh}
 use Rattle.runs.specs.Promises.{Promised}
-
--- what was read of the bytes that a reader has left, where these are known: the next of their lines, or none at their end
-abbrev pub LineRead : (before : Option (List ℕ)) → Option (List ℕ) → (after : Option (List ℕ)) → Type 0
-LineRead None line after = ⊤
-LineRead (Some input) None after = input ≡ []
-LineRead (Some input) (Some line) None = ⊥
-LineRead (Some input) (Some line) (Some left) = lines_of input ≡ line ∷ lines_of left
 
 -- lines in, lines out: the turns that the lines read are cut into, what each is answered, and what is promised of them
 pub record Run (input printed : List ℕ) (ts : List Turn) : Type 0 where

@@ -1,5 +1,5 @@
 -- The first line is read as a command, and what it is answered is the turn's; or it is none, and nothing was changed.
-use Rattle.std.proofs.Common.{◌≡◌, ℕ, List, ◌∷◌, map, Ok, Err, None, Some, Option, Result, String, IfOk, MatchResult, vec_items, string_bytes, inl, inr, refl, sym, ap, ◌∙◌, subst}
+use Rattle.std.proofs.Common.{◌≡◌, ℕ, List, ◌∷◌, map, Ok, Err, Some, Option, Result, String, IfOk, MatchResult, vec_items, string_bytes, inl, inr, refl, sym, ap, ◌∙◌, subst}
 use Rattle.std.specs.Option.{option_map}
 use Rattle.std.specs.declared.alloc.AllocError.{AllocError}
 use Rattle.std.specs.declared.alloc.Global.{Global}
@@ -11,7 +11,6 @@ use Rattle.texts.specs.declared.command.Command.{Command}
 use Rattle.texts.specs.declared.signature.SignatureLines.{SignatureLines}
 use Rattle.sessions.specs.Sessions.{Executed, Failed, Answered}
 use Rattle.sessions.specs.declared.session.Session.{Session}
-use Rattle.runs.specs.Turns.{Turn}
 use Rattle.runs.specs.Steps.{Turned}
 use Rattle.runs.proofs.turns.turn.Goals as goal
 
