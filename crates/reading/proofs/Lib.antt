@@ -3,4 +3,6 @@ pub mod Cuts
 mod Decimals
 mod Hexes
 pub mod Lines
+pub mod Newlines
 pub mod Pieces
+pub mod Printed

@@ -3,7 +3,6 @@ use Rattle.std.proofs.Common.{◌≡◌, ℕ, List, [], ◌∷◌, ◌++◌, map
 use Rattle.std.specs.List.{flat_map, AllZip}
 use Rattle.std.specs.Str.Iter.{LacksByte}
 use Rattle.std.proofs.lemmas.List.{append_cancel_left}
-use Rattle.std.proofs.lemmas.Option.{MatchOption-at_none, MatchOption-at_some}
 use Rattle.hash.specs.Value.{value_of, bytes_of}
 use Rattle.hash.specs.declared.number.Number.{Number}
 use Rattle.hash.proofs.Numbers.{bytes_back, with_bytes}
@@ -50,12 +49,3 @@ line_read items word rest line None e none = λ vs f.
     let same : flat_map spaced n.0 ≡ rest = n.1 ∙ append_cancel_left word _ rest (sym f ∙ e) in
     none n.0 (subst (λ (t : List ℕ). SpacedWords (λ w n. w ≡ hex n.bytes) t n.0) same (numbers_words n.0))
 line_read items word rest line (Some v) e s = e ∙ ap (λ (t : List ℕ). word ++ t) (s.1 ∙ (words_numbers s.0 (items v) s.2 ∙ by_values (items v)))
-
--- what the answer of a reader of numbers says of the line behind it
-pub line_some : {A : Type 0} {o : Option A} (items : A → List ℕ) (word line : List ℕ) (x : A) → o ≡ Some x →
-    MatchOption o ((vs : List ℕ) → line ≡ numbers_line word vs → ⊥) (λ v. line ≡ numbers_line word (items v)) → (vs : List ℕ) × (line ≡ numbers_line word vs)
-line_some items word line x e f = (items x, MatchOption-at_some _ _ x e f)
-
-pub line_none : {A : Type 0} {o : Option A} (items : A → List ℕ) (word line : List ℕ) → o ≡ None →
-    MatchOption o ((vs : List ℕ) → line ≡ numbers_line word vs → ⊥) (λ v. line ≡ numbers_line word (items v)) → (vs : List ℕ) × (line ≡ numbers_line word vs) → ⊥
-line_none items word line e f r = MatchOption-at_none _ _ e f r.0 r.1
