@@ -10,23 +10,29 @@ use Rattle.reading.specs.Spaced.{Stops, FirstWord, SpacedWords}
 use Rattle.hash.specs.Hex.{hex_digit, hex}
 use Rattle.reading.specs.Spelling.{WordEnd, is_digit, all_digits, digits_value, decimal_of}
 
--- no digit is a space
-pub digits_whole : (cs : List ℕ) → all_digits cs ≡ true → LacksByte 32 cs
-digits_whole [] e k h s = omega arith
-digits_whole (c ∷ cs) e zero h s = let low = leb-true 48 c (and_parts _ _ (and_parts (is_digit c) (all_digits cs) e).0).0 in omega (arith, low)
-digits_whole (c ∷ cs) e (suc k) h s = digits_whole cs (and_parts (is_digit c) (all_digits cs) e).1 k (omega arith) s
+-- no digit is a character that comes before the digits, as a space and a newline do
+digits_lack : (c : ℕ) → c < 48 → (cs : List ℕ) → all_digits cs ≡ true → LacksByte c cs
+digits_lack c low [] e k h s = omega arith
+digits_lack c low (d ∷ cs) e zero h s = let digit = leb-true 48 d (and_parts _ _ (and_parts (is_digit d) (all_digits cs) e).0).0 in omega (arith, digit)
+digits_lack c low (d ∷ cs) e (suc k) h s = digits_lack c low cs (and_parts (is_digit d) (all_digits cs) e).1 k (omega arith) s
+
+pub decimal_lacks : (c : ℕ) → c < 48 → (limit : ℕ) (cs : List ℕ) (v : ℕ) → decimal_of limit cs ≡ Some v → LacksByte c cs
+decimal_lacks c low limit cs v e = digits_lack c low cs (and_parts (all_digits cs) _ (and_parts _ _ (cond_some _ (digits_value cs) v e).0).1).0
 
 pub decimal_whole : (limit : ℕ) (cs : List ℕ) (v : ℕ) → decimal_of limit cs ≡ Some v → LacksByte 32 cs
-decimal_whole limit cs v e = digits_whole cs (and_parts (all_digits cs) _ (and_parts _ _ (cond_some _ (digits_value cs) v e).0).1).0
+decimal_whole limit cs v e = decimal_lacks 32 (omega arith) limit cs v e
 
-digit_no_space : (d : ℕ) → hex_digit d ≡ 32 → ⊥
-digit_no_space d = grind (arith, nat_tests)
+digit_above : (d : ℕ) → hex_digit d < 48 → ⊥
+digit_above d = grind (arith, nat_tests)
+
+pub hex_lacks : (c : ℕ) → c < 48 → (bs : List ℕ) → LacksByte c (hex bs)
+hex_lacks c low [] k h s = omega arith
+hex_lacks c low (b ∷ bs) zero h s = digit_above (b / 16) (omega (arith, s, low))
+hex_lacks c low (b ∷ bs) (suc zero) h s = digit_above (b % 16) (omega (arith, s, low))
+hex_lacks c low (b ∷ bs) (suc (suc k)) h s = hex_lacks c low bs k (omega arith) s
 
 pub hex_whole : (bs : List ℕ) → LacksByte 32 (hex bs)
-hex_whole [] k h s = omega arith
-hex_whole (b ∷ bs) zero h s = digit_no_space (b / 16) s
-hex_whole (b ∷ bs) (suc zero) h s = digit_no_space (b % 16) s
-hex_whole (b ∷ bs) (suc (suc k)) h s = hex_whole bs k (omega arith) s
+hex_whole bs = hex_lacks 32 (omega arith) bs
 
 -- what stands behind a word begins where the word ends
 after_word : (w rest : List ℕ) → Stops rest → length w < length (w ++ rest) → get_or (w ++ rest) (length w) 0 ≡ 32

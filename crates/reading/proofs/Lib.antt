@@ -3,3 +3,5 @@ pub mod Cuts
 mod Decimals
 mod Hexes
 pub mod Lines
+pub mod Newlines
+pub mod Printed

@@ -23,3 +23,7 @@ digits_value cs = number_from_digits 10 (map (λ c. c - 48) cs)
 -- the number that a text is in decimal, if it is one or more digits and below the limit
 abbrev pub decimal_of : ℕ → List ℕ → Option ℕ
 decimal_of limit cs = if nat_lt 0 (length cs) && (all_digits cs && nat_lt (digits_value cs) limit) then Some (digits_value cs) else None
+
+-- digits with no 0 in front, but for 0 itself
+abbrev pub Plain : List ℕ → Type 0
+Plain ds = slice_index ds 0 ≡ 48 → length ds ≡ 1

@@ -1,13 +1,12 @@
 -- What is promised follows from what is answered.
-use Rattle.std.proofs.Common.{◌≡◌, ℕ, ◌<◌, min, Bool, true, false, ◌⊎◌, List, ◌++◌, map, length, get_or, Some, None, Ok, Err, vec_items, codes, decimal, Option, Result, String, sym, refl, ap, ◌∙◌, subst, arith}
+use Rattle.std.proofs.Common.{◌≡◌, ℕ, ◌<◌, min, Bool, true, false, ◌⊎◌, List, ◌++◌, length, get_or, Some, None, Ok, Err, vec_items, codes, decimal, Option, Result, String, sym, refl, ap, ◌∙◌, subst, arith}
 use Rattle.std.specs.declared.alloc.Global.{Global}
 use Rattle.std.proofs.lemmas.List.FromFn.{length-map-range_with_len}
 use Rattle.std.proofs.lemmas.Fmt.{decimal_digit}
 use Rattle.std.proofs.lemmas.Bool.{ltb-true}
 use Rattle.hash.specs.Mix.{Mix}
 use Rattle.hash.specs.Value.{bytes_of, value_of, bit_at}
-use Rattle.sha256.specs.Rows.{row_hash, BoundedRow}
-use Rattle.sha256.proofs.Bounds.{BoundedRow-append, values_bounded}
+use Rattle.sha256.specs.Rows.{row_hash}
 use Rattle.keys.specs.Refusals.{refusal_number, refusal_place, refusal_spelled}
 use Rattle.keys.specs.declared.refusal.Refusal.{Refusal}
 use Rattle.keys.specs.declared.refusal.Refusal.TheVariants.{Levels as TooManyLevels, Store as BadStore, NextKey, Bits, Line}
@@ -15,7 +14,7 @@ use Rattle.keys.proofs.Refused.{bits_taken}
 use Rattle.tree.specs.Tree.{node}
 use Rattle.signatures.specs.Lines.{signature_text}
 use Rattle.signatures.specs.Rows.{LocatedCollision}
-use Rattle.signatures.specs.Signatures.{numbers, signed, accepted}
+use Rattle.signatures.specs.Signatures.{signed, accepted}
 use Rattle.signatures.proofs.Forgeries.{own_or_located_lem}
 use Rattle.signatures.proofs.Own.{own_accepted_lem}
 use Rattle.signer.specs.Answers.{answer}
@@ -31,6 +30,7 @@ use Rattle.texts.specs.declared.command.Command.{Command}
 use Rattle.texts.specs.declared.command.Command.TheVariants.{Store, Levels, Root, Sign, Look, Power, Slot, State}
 use Rattle.texts.specs.declared.signature.ReadSignature.{ReadSignature}
 use Rattle.texts.specs.declared.signature.SignatureLines.{SignatureLines}
+use Rattle.texts.proofs.ReadBack.{numbers_below}
 use Rattle.sessions.specs.Replies.{sign_spelled, look_spelled}
 use Rattle.sessions.specs.Sessions.{power_of, bits_asked, look_answer, Says, Answered, Promised, PromisedStrings}
 use Rattle.sessions.specs.declared.session.Session.{Session}
@@ -102,15 +102,9 @@ promised h s (Power k) t o a = tt
 promised h s Slot t o a = tt
 promised h s State t o a = tt
 
--- the numbers of a signature that was read are numbers of the program
-read_bounded : (g : ReadSignature) → BoundedRow (numbers (signature_of g))
-read_bounded g =
-    let rest = BoundedRow-append (map value_of (vec_items g.others)) (map value_of (vec_items g.path)) (values_bounded (vec_items g.others)) (values_bounded (vec_items g.path)) in
-    BoundedRow-append (map value_of (vec_items g.parts)) _ (values_bounded (vec_items g.parts)) rest
-
 -- at SHA-256 with byte strings
 pub promised_strings : (s : Session) (c : Command) (t : SignatureLines) (o : Option (String Global)) → Promised row_hash s c t o → PromisedStrings s c t o
 promised_strings s (Look r x) t o p = λ e.
     let y = p e in
-    (y.0, y.1, λ seed l n root. as_strings seed l n s.tree.signer.levels (bits_asked row_hash s (vec_items x)) (signature_of y.0) (read_bounded y.0) (y.2 seed l n root))
+    (y.0, y.1, λ seed l n root. as_strings seed l n s.tree.signer.levels (bits_asked row_hash s (vec_items x)) (signature_of y.0) (numbers_below y.0) (y.2 seed l n root))
 promised_strings s c t o p = p

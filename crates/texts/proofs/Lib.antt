@@ -2,3 +2,4 @@
 mod Commanded
 mod Cuts
 pub mod Looks
+pub mod ReadBack

@@ -1,11 +1,13 @@
 -- The four lines of a signature, as they are read. Assumes nothing: these are definitions.
-use Rattle.std.specs.Prelude.{◌≡◌, ℕ, zero, suc, ◌+◌, ◌^◌, ◌<◌, min, List, [], ◌++◌, map, get_or, Some, Ok, Err, vec_items, codes, Result}
+use Rattle.std.specs.Prelude.{◌≡◌, ℕ, zero, suc, ◌+◌, ◌^◌, ◌<◌, min, List, [], ◌∷◌, ◌++◌, map, get_or, Some, Ok, Err, vec_items, codes, Result}
+use Rattle.hash.specs.Members.{In}
 use Rattle.hash.specs.Value.{value_of}
 use Rattle.keys.specs.declared.refusal.Refusal.{Refusal}
 use Rattle.keys.specs.declared.refusal.Refusal.TheVariants.{Line}
-use Rattle.signatures.specs.Signatures.{Signature}
+use Rattle.signatures.specs.Signatures.{Signature, numbers}
 use Rattle.signatures.specs.Lines.{numbers_line}
-use Rattle.reading.specs.Spelling.{decimal_of}
+use Rattle.reading.specs.Newlines.{lines_of}
+use Rattle.reading.specs.Spelling.{decimal_of, Plain}
 use Rattle.texts.specs.declared.signature.ReadSignature.{ReadSignature}
 use Rattle.texts.specs.declared.signature.SignatureLines.{SignatureLines}
 
@@ -56,3 +58,15 @@ abbrev pub SignatureRead : SignatureLines → Result ReadSignature Refusal → T
 SignatureRead t (Ok s) = LinesOf (signature_of s) t
 SignatureRead t (Err r) =
     (k : ℕ) × (k < 4) × ((j : ℕ) → j < k → Readable t j) × (Readable t k → ⊥) × (r ≡ Line (line_after t.first k))
+
+-- its numbers are numbers of the program
+abbrev pub Fits : Signature → Type 0
+Fits g = (g.key < 2 ^ 64) × ((v : ℕ) → In v (numbers g) → v < 2 ^ 256)
+
+-- the lines are those of a text
+abbrev pub FourLines : SignatureLines → List ℕ → Type 0
+FourLines t cs = lines_of cs ≡ t.key.now ∷ t.parts.now ∷ t.others.now ∷ t.path.now ∷ []
+
+-- the key is written as it is printed, with no 0 in front
+abbrev pub KeyPlain : SignatureLines → Type 0
+KeyPlain t = (ds : List ℕ) × (t.key.now ≡ codes "key " ++ ds) × Plain ds

@@ -1,10 +1,12 @@
 // The four lines of a signature.
-ghost use Rattle.std.specs.Prelude.{◌≡◌, map, Ok, Err, vec_items, IfOk, IsErrOf};
+ghost use Rattle.std.specs.Prelude.{◌≡◌, map, Ok, Err, vec_items, IfOk, IsErrOf, MatchResult, ◌≢◌};
 ghost use Rattle.keys.specs.declared.refusal.Refusal.{Refusal};
 ghost use Rattle.keys.specs.declared.refusal.Refusal.TheVariants.{Line};
+ghost use Rattle.signatures.specs.Lines.{signature_text};
+ghost use Rattle.signatures.specs.Signatures.{Signature};
 ghost use Rattle.signatures.specs.Views.{viewed};
 ghost use Rattle.reading.specs.Reading.{Reads};
-ghost use Rattle.texts.specs.SignatureLines.{line_at, line_after, signature_of, KeySpelled, LinesAre, SignatureRead};
+ghost use Rattle.texts.specs.SignatureLines.{line_at, line_after, signature_of, KeySpelled, LinesAre, SignatureRead, Fits, FourLines, KeyPlain};
 ghost use Rattle.texts.specs.declared.signature.ReadError.TheVariants.{Refused, Memory};
 
 use hash::Number;
@@ -106,10 +108,12 @@ impl SignatureLines<'_> {
         Refusal::Line(self.first.saturating_add(after))
     }
 
-    // The signature, or the refusal of the first line that cannot be read.
+    // The signature, or the refusal of the first line that cannot be read. What is printed is read back, and what is read is printed as it was but for zeros in front of the key.
     pub fn read(&self, heap: Global) -> Result<ReadSignature, ReadError>
         ensures read { IfOk result (λ s. SignatureRead self.now (Ok s)) }
         ensures refused { (r : Refusal) → IsErrOf result (Refused r) → SignatureRead self.now (Err r) }
+        ensures back { (g : Signature) → Fits g → FourLines self.now (signature_text g) → MatchResult result (λ s. signature_of s ≡ g) (λ e. (r : Refusal) → e ≢ Refused r) }
+        ensures again { IfOk result (λ s. KeyPlain self.now → FourLines self.now (signature_text (signature_of s))) }
     {
         let key = read_key(self.key).ok_or(self.refusal(0))?;
         let parts = read_numbers(heap, b"parts", self.parts)?.ok_or(self.refusal(1))?;

@@ -8,6 +8,7 @@ use Rattle.texts.specs.SignatureLines.{Readable}
 use Rattle.texts.specs.declared.signature.ReadError.{ReadError}
 use Rattle.texts.specs.declared.signature.ReadError.TheVariants.{Refused}
 use Rattle.reading.proofs.Lines.{line_some, line_none}
+use Rattle.texts.proofs.ReadBack.{spelled_back, read_back, printed_again}
 use Rattle.texts.proofs.signature.SignatureLines.read.Goals as goal
 
 -- the refusal that is handed on is the one that stands for a line which is none
@@ -35,3 +36,30 @@ returns-in_err-path-clause-refused c r e =
     let three = below_more (Readable t) 2 two
     (line_some (λ v. map value_of (vec_items v)) (codes "others") (t.others.now) c.in_ok-others.others c.in_ok-others.ensures.ok_part c.in_ok-read_numbers-2.ensures) in
     (3, omega arith, three, line_none (λ v. map value_of (vec_items v)) (codes "path") (t.path.now) none c.in_ok-read_numbers-3.ensures, is ∙ c.refusal-4.ensures)
+
+-- a line of what was printed is read, so it is not refused
+pub returns-in_err-key-clause-back : goal.returns-in_err-key-clause-back
+returns-in_err-key-clause-back c g f l =
+    absurd (MatchOption-at_none _ _ c.in_err-key.ensures.ok_part c.read_key.ensures g.key (spelled_back c.args.self.now g f l).0)
+
+pub returns-in_err-parts-clause-back : goal.returns-in_err-parts-clause-back
+returns-in_err-parts-clause-back c g f l =
+    absurd (MatchOption-at_none _ _ c.in_err-parts.ensures.ok_part c.in_ok-read_numbers.ensures g.parts (spelled_back c.args.self.now g f l).1)
+
+pub returns-in_err-others-clause-back : goal.returns-in_err-others-clause-back
+returns-in_err-others-clause-back c g f l =
+    absurd (MatchOption-at_none _ _ c.in_err-others.ensures.ok_part c.in_ok-read_numbers-2.ensures g.others (spelled_back c.args.self.now g f l).2)
+
+pub returns-in_err-path-clause-back : goal.returns-in_err-path-clause-back
+returns-in_err-path-clause-back c g f l =
+    absurd (MatchOption-at_none _ _ c.in_err-path.ensures.ok_part c.in_ok-read_numbers-3.ensures g.path (spelled_back c.args.self.now g f l).3)
+
+pub returns-clause-read : goal.returns-clause-read
+returns-clause-read c =
+    (MatchOption-at_some _ _ c.in_ok-key.key c.in_ok-key.ensures.ok_part c.read_key.ensures, MatchOption-at_some _ _ c.in_ok-parts.parts c.in_ok-parts.ensures.ok_part c.in_ok-read_numbers.ensures, MatchOption-at_some _ _ c.in_ok-others.others c.in_ok-others.ensures.ok_part c.in_ok-read_numbers-2.ensures, MatchOption-at_some _ _ c.in_ok-path.path c.in_ok-path.ensures.ok_part c.in_ok-read_numbers-3.ensures)
+
+pub returns-clause-back : goal.returns-clause-back
+returns-clause-back c g f l = read_back c.args.self.now (record { key = c.in_ok-key.key; parts = c.in_ok-parts.parts; others = c.in_ok-others.others; path = c.in_ok-path.path }) (returns-clause-read c) g f l
+
+pub returns-clause-again : goal.returns-clause-again
+returns-clause-again c plain = printed_again c.args.self.now (record { key = c.in_ok-key.key; parts = c.in_ok-parts.parts; others = c.in_ok-others.others; path = c.in_ok-path.path }) (returns-clause-read c) plain
