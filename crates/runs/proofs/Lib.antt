@@ -1,5 +1,5 @@
 -- The lemmas of this crate.
-mod Cuts
+mod Printed
 mod Progress
 mod Promised
 
