@@ -98,68 +98,68 @@ def at_terminal():
     return Program(ours, ours, process)
 
 
-def typed(program, said):
-    """Types these lines, each after the answer to the one before; what the model then waits for."""
+def typed(program, said, halves=False):
+    """Types these lines, each after the answer to the one before, or also each in two halves; what the model then waits for."""
     told = model.Lines()
-    for number, line in enumerate(said):
-        program.type(examples.raw(line) + b"\n")
-        good = program.expect(told.line(examples.raw(line)))
-        if good is not True:
-            sys.exit("line %d, %s: %s" % (number, line, good))
+    for number, line in enumerate(map(examples.raw, said)):
+        half = len(line) // 2 if halves else 0
+        if half:
+            program.type(line[:half])
+            check(program.expect(None), "half of line %d" % number)
+        program.type(line[half:] + b"\n")
+        check(program.expect(told.line(line)), "line %d, %s" % (number, line))
     return told
 
 
-def ended(program, told, where):
-    """What comes at the end of the input, and the status."""
-    answer = told.end()
+def check(good, where):
+    if good is not True:
+        sys.exit("%s: %s" % (where, good))
+
+
+def ended(program, answers, where):
+    """At the end of the input these answers come, those that are some, and the program ends with 0."""
+    wanted = b"".join(answer.encode() + b"\n" for answer in answers if answer is not None)
     came = program.rest()
-    if came != (b"" if answer is None else answer.encode() + b"\n"):
-        sys.exit("%s: %r came for %s" % (where, came, answer))
-    try:
-        status = program.process.wait(LONGEST)
-    except subprocess.TimeoutExpired:
-        program.process.kill()
-        sys.exit("%s: no end" % where)
-    if status != 0:
-        sys.exit("%s: it ended with %d" % (where, status))
+    check(came == wanted or "%r came for %r" % (came, wanted), where)
+    status = program.process.wait(LONGEST)
+    check(status == 0 or "it ended with %d" % status, where)
 
 
-def close(program, told, where):
+def closed(said, last):
+    """The input is closed behind these lines and the last one, which has no newline or is nothing at all."""
+    where = "closed behind %d lines and %r" % (len(said), last)
+    program, told = at_pipes(), model.Lines()
+    # All at once, since it was seen that each answer comes before the next line.
+    program.type(b"".join(line + b"\n" for line in said))
+    answers = [answer for answer in map(told.line, said) if answer is not None]
+    check(not answers or program.expect("\n".join(answers)), where)
+    program.type(last)
+    close(program, [told.line(last) if last else None, told.end()], where)
+
+
+def close(program, answers, where):
     program.process.stdin.close()
-    ended(program, told, where)
+    ended(program, answers, where)
     program.process.stdout.close()
-
-
-def closed_behind(said, half):
-    """The input is closed behind these lines, and behind a half one."""
-    program = at_pipes()
-    # All at once, since it was seen that each answer comes.
-    program.type(b"".join(examples.raw(line) + b"\n" for line in said) + half)
-    told = model.Lines()
-    printed = [told.line(examples.raw(line)) for line in said] + ([told.line(half)] if half else [])
-    for answer in printed:
-        good = answer is None or program.expect(answer)
-        if good is not True:
-            sys.exit("closed behind line %d: %s" % (len(said), good))
-    close(program, told, "closed behind line %d and %r" % (len(said), half))
 
 
 def main():
     said = lines()
     program = at_pipes()
-    close(program, typed(program, said), "pipe")
-    print("over a pipe: %d lines, each answered before the next" % len(said))
+    close(program, [typed(program, said, True).end()], "pipe")
+    print("over a pipe: %d lines, each answered before the next was typed" % len(said))
     program = at_terminal()
     told = typed(program, said + ["look"])
     program.type(b"\x04")
-    ended(program, told, "terminal")
-    print("over a pseudo-terminal: the same, and its end inside a look")
-    for count in range(len(said)):
-        half = examples.raw(said[count])
-        closed_behind(said[:count], b"")
-        closed_behind(said[:count], half[: len(half) // 2])
-        closed_behind(said[:count], half)
-    print("closed at %d points, 3 at each line: status 0" % (3 * len(said)))
+    ended(program, [told.end()], "pseudo-terminal")
+    print("over a pseudo-terminal: the same, and the end inside a look")
+    said = [examples.raw(line) for line in said]
+    for count, line in enumerate(said):
+        closed(said[:count], b"")
+        closed(said[:count], line[: len(line) // 2])
+        closed(said[:count], line)
+    closed(said, b"")
+    print("closed at %d places: it ended with 0" % (3 * len(said) + 1))
 
 
 if __name__ == "__main__":
