@@ -1,8 +1,8 @@
 #!/usr/bin/env python3
-"""A second account of the program, written from the rules alone: reads the program's lines on standard input and prints what it should print.
+"""A second account of the program, written from the rules alone: reads the program's lines on standard input and prints what it should print, each answer before the next line is waited for.
 
 Run by hand, not by the gate:  python3 tests/model.py < crates/kachumpe/stdin | diff - crates/kachumpe/stdout
-Other tests import it.
+Other tests import it. It can be run in the program's place, with KACHUMPE=tests/model.py.
 """
 import functools
 import hashlib
@@ -15,6 +15,7 @@ STORE = re.compile(rb"store((?: [0-9]+)*)")
 SETTINGS = re.compile(rb"levels ([0-9]+) bits ([0-9]+) seed ([0-9]+)")
 POWER = re.compile(rb"power ([0-9]+)")
 LOOK = re.compile(rb"look ([0-9a-f]{64}) (.*)", re.S)
+KEY = re.compile(rb"key ([0-9]+)")
 LASTS = 2  # Power that lasts: a key takes two writes.
 
 
@@ -156,7 +157,7 @@ class Session:
     def told(self, line):
         """Whether this is a line that prints nothing. What it says holds from now on."""
         if (numbers := decimals(STORE, line, itertools.repeat(2**32))) is not None:
-            self.store = numbers
+            self.store = list(numbers)
         elif (numbers := decimals(SETTINGS, line, (2**64, 2**64, 2**256))) is not None:
             self.levels, self.bits, self.seed = numbers
         elif (numbers := decimals(POWER, line, (2**64,))) is not None:
@@ -181,48 +182,98 @@ def decimals(form, line, limits):
     """The numbers of a line of this form, each below its limit; none if it is no such line."""
     if not form.fullmatch(line):
         return None
-    numbers = [decimal(word, limit) for word, limit in zip(re.findall(rb"[0-9]+", line), limits)]
+    numbers = tuple(decimal(word, limit) for word, limit in zip(re.findall(rb"[0-9]+", line), limits))
     return None if None in numbers else numbers
 
 
-def decimal(word, limit):
-    return int(word) if re.fullmatch(rb"[0-9]+", word) and int(word) < limit else None
+def decimal(digits, limit):
+    """The number, if it is below the limit. Nothing below 2^256 has more than 78 digits, but for zeros before them."""
+    digits = digits.lstrip(b"0") or b"0"
+    return int(digits) if len(digits) <= 78 and int(digits) < limit else None
 
 
-def read_signature(lines):
-    """The signature in four lines, or the place of the first that cannot be read."""
-    m = lines[0] is not None and re.fullmatch(rb"key ([0-9]+)", lines[0])
-    key = decimal(m.group(1), 2**64) if m else None
-    if key is None:
-        return None, 0
-    rows = []
-    for k, word in enumerate((b"parts", b"others", b"path"), 1):
-        m = lines[k] is not None and re.fullmatch(word + rb"((?: [0-9a-f]{64})*)", lines[k])
-        if not m:
-            return None, k
-        rows.append([int(x, 16) for x in m.group(1).split()])
-    return (key, *rows), None
+def begins_look(line):
+    """Whether the line takes the next four with it, also where it cannot be read itself."""
+    return line.split(b" ")[0] == b"look"
+
+
+def read_look(lines):
+    """What a `look` and its four lines ask, and none; or none, and the place of the first that cannot be read. A line that is missing is None."""
+    readers = [read_root_and_text, read_key] + [functools.partial(read_row, word) for word in (b"parts", b"others", b"path")]
+    asked = ()
+    for place, (read, line) in enumerate(zip(readers, lines)):
+        values = None if line is None else read(line)
+        if values is None:
+            return None, place
+        asked += values
+    return asked, None
+
+
+def read_root_and_text(line):
+    m = LOOK.fullmatch(line)
+    return m and (int(m.group(1), 16), m.group(2))
+
+
+def read_key(line):
+    return decimals(KEY, line, (2**64,))
+
+
+def read_row(word, line):
+    m = re.fullmatch(word + rb"((?: [0-9a-f]{64})*)", line)
+    return m and ([int(x, 16) for x in m.group(1).split()],)
+
+
+class Lines:
+    """The program's lines, one after the other, and what is printed for each."""
+
+    def __init__(self):
+        self.session, self.next, self.look = Session(), 0, []
+
+    def line(self, line):
+        """What is printed before the next line is waited for, if anything is."""
+        self.next += 1
+        if self.look or begins_look(line):
+            self.look.append(line)
+            return self.looked() if len(self.look) == 5 else None
+        if self.session.told(line):
+            return None
+        answer = self.session.asked(line)
+        return "5 %d" % (self.next - 1) if answer is None else answer
+
+    def end(self):
+        """What is printed at the end of the input, if anything is."""
+        return self.looked() if self.look else None
+
+    def looked(self):
+        lines, self.look = self.look, []
+        asked, bad = read_look(lines + [None] * (5 - len(lines)))
+        return "5 %d" % (self.next - len(lines) + bad) if asked is None else self.session.look(*asked)
+
+
+def split(data):
+    """The lines of an input. The last may lack its newline."""
+    lines = data.split(b"\n")
+    return lines if lines[-1] else lines[:-1]
 
 
 def answers(data):
-    """The lines that the program prints for these."""
-    lines = data.split(b"\n")
-    if lines[-1] == b"":
-        lines.pop()
-    session, at, printed = Session(), 0, []
-    while at < len(lines):
-        line, number = lines[at], at
-        at += 1
-        if m := LOOK.fullmatch(line):
-            four = [lines[k] if k < len(lines) else None for k in range(at, at + 4)]
-            read, bad = read_signature(four)
-            printed.append("5 %d" % (at + bad) if read is None else session.look(int(m.group(1), 16), m.group(2), *read))
-            at += 4
-        elif not session.told(line):
-            printed.append(session.asked(line) or "5 %d" % number)
-    return printed
+    """The answers that the program prints for this input."""
+    lines = Lines()
+    printed = [lines.line(line) for line in split(data)] + [lines.end()]
+    return [answer for answer in printed if answer is not None]
+
+
+def main():
+    lines = Lines()
+    for line in sys.stdin.buffer:
+        say(lines.line(line.removesuffix(b"\n")))
+    say(lines.end())
+
+
+def say(answer):
+    if answer is not None:
+        print(answer, flush=True)
 
 
 if __name__ == "__main__":
-    for answer in answers(sys.stdin.buffer.read()):
-        print(answer)
+    main()
