@@ -115,16 +115,6 @@ done input printed p p₁ o = done_of input printed (taken p) p p₁ o refl
 abbrev pub Known : (input left before now : Option (List ℕ)) → Program → Type 0
 Known input left before now p = IfSome input (λ xs. (printed : List ℕ) × Appends before now printed × MatchOption left ⊥ (λ ys. Progress xs ys printed p))
 
-appends_nothing : (a : Option (List ℕ)) → Appends a a []
-appends_nothing None = tt
-appends_nothing (Some xs) = sym (append-nil xs)
-
-appends_both : (a b c : Option (List ℕ)) (xs ys : List ℕ) → Appends a b xs → Appends b c ys → Appends a c (xs ++ ys)
-appends_both None b c xs ys p q = tt
-appends_both (Some x) None c xs ys p q = absurd p
-appends_both (Some x) (Some y) None xs ys p q = absurd q
-appends_both (Some x) (Some y) (Some z) xs ys p q = q ∙ (ap (λ (l : List ℕ). l ++ ys) p ∙ append_assoc x xs ys)
-
 pub known_begun : (input left now : Option (List ℕ)) (p : Program) → left ≡ input → Fresh p.session → taken p ≡ [] → p.number ≡ 0 → Known input left now now p
 known_begun None left now p e fresh none zero = tt
 known_begun (Some xs) None now p e fresh none zero = absurd cc

@@ -1,15 +1,20 @@
--- A whole run: the bytes that are read and those that are printed. Assumes nothing: these are definitions.
-use Rattle.std.specs.Prelude.{◌≡◌, ℕ, List, map}
+-- A run: the bytes that are read and those that are printed. Assumes nothing: these are definitions.
+use Rattle.std.specs.Prelude.{◌≡◌, ℕ, List, ◌++◌, map, Option}
 use Rattle.std.specs.List.{flat_map}
+use Rattle.std.specs.Io.KnownBytes.{Appends}
 use Rattle.reading.specs.Newlines.{lines_of}
 use Rattle.sessions.specs.declared.session.Session.{Session}
 use Rattle.runs.specs.Turns.{turns_of, Turn, bytes_printed}
 use Rattle.runs.specs.Steps.{Ran, Fresh}
 use Rattle.runs.specs.Promises.{Promised}
 
--- lines in, lines out: the turns that the lines read are cut into, what each is answered, and what is promised of them
-pub record Run (input printed : List ℕ) (ts : List Turn) : Type 0 where
-  pub typed : map (λ t. t.typed) ts ≡ turns_of (lines_of input)
-  pub shown : printed ≡ flat_map (λ t. bytes_printed t.printed) ts
+-- a writer took bytes, all but those that are left
+abbrev pub AppendsFront : (before after : Option (List ℕ)) → (bytes left : List ℕ) → Type 0
+AppendsFront before after bytes left = (front : List ℕ) × (bytes ≡ front ++ left) × Appends before after front
+
+-- Lines in, lines out: the turns that were taken of those that the lines read are cut into, and the bytes that were printed of what they are answered. What is to come: turns, and bytes of the last answer; nothing where all went well
+pub record Run (input printed : List ℕ) (ts : List Turn) (more : List (List (List ℕ))) (left : List ℕ) : Type 0 where
+  pub typed : turns_of (lines_of input) ≡ map (λ t. t.typed) ts ++ more
+  pub shown : flat_map (λ t. bytes_printed t.printed) ts ≡ printed ++ left
   pub answered : (s : Session) × (n₁ : ℕ) × (s₁ : Session) × Fresh s × Ran 0 s ts n₁ s₁
   pub promised : Promised ts

@@ -1,30 +1,58 @@
 // Reads lines to the end, asks the program, and prints what it answers.
-ghost use Rattle.std.specs.Prelude.{ℕ, List, OnOk, IfSome, string_bytes};
+ghost use Rattle.std.specs.Prelude.{◌≡◌, ℕ, ◌≤◌, List, [], length, IfOk, OnOk, IfSome, string_bytes};
 ghost use Rattle.std.specs.Option.{option_map};
-ghost use Rattle.std.specs.Io.KnownBytes.{Appends};
+ghost use Rattle.std.specs.Io.KnownBytes.{Appends, WriteAppends};
 ghost use Rattle.runs.specs.Turns.{Turn, bytes_printed};
-ghost use Rattle.runs.specs.Runs.{Run};
+ghost use Rattle.runs.specs.Runs.{AppendsFront, Run};
 
 use crate::program::Program;
 use std::alloc::Global;
 use std::io;
-use std::io::{BufRead, Write};
+use std::io::{BufRead, ErrorKind, Write};
+
+// Writes a front part of bytes, which are some, and gives its length: 0 where the writer was interrupted.
+fn write_some<W: Write>(writer: &mut W, bytes: &[u8]) -> io::Result<usize>
+    ensures bound { IfOk result (λ n. n ≤ length bytes.now) }
+    ensures bytes { WriteAppends (W.contents writer.old) (W.contents writer.new) result bytes.now }
+{
+    match writer.write(bytes) {
+        Ok(0) => Err(ErrorKind::WriteZero.into()),
+        Err(error) if error.kind() == ErrorKind::Interrupted => Ok(0),
+        written => written,
+    }
+}
+
+// Writes bytes, or a front part of them where writing fails. No `write_all`, whose contract does not say what was written then.
+fn write<W: Write>(writer: &mut W, bytes: &[u8]) -> io::Result<()>
+    ensures { (left : List ℕ) × AppendsFront (W.contents writer.old) (W.contents writer.new) bytes.now left × OnOk result (left ≡ []) }
+{
+    let mut left = bytes;
+    // A count, since a writer may be interrupted again and again.
+    for _ in 0..u64::MAX {
+        if left.is_empty() {
+            return Ok(());
+        }
+        let count = write_some(writer, left)?;
+        left = &left[count..];
+    }
+    Err(ErrorKind::TimedOut.into())
+}
 
 // Prints a text, if there is one, and a newline.
 fn print<W: Write>(writer: &mut W, text: Option<String>) -> io::Result<()>
-    ensures { OnOk result (Appends (W.contents writer.old) (W.contents writer.new) (bytes_printed (option_map string_bytes text))) }
+    ensures { (left : List ℕ) × AppendsFront (W.contents writer.old) (W.contents writer.new) (bytes_printed (option_map string_bytes text)) left × OnOk result (left ≡ []) }
 {
-    let Some(text) = text else {
+    let Some(mut text) = text else {
         return Ok(());
     };
-    writer.write_all(text.as_bytes())?;
-    writer.write_all(b"\n")?;
+    text.push('\n')?;
+    write(writer, text.as_bytes())?;
     writer.flush()
 }
 
 // Takes the lines one by one, each answered before the next one is waited for, to the end of the input.
 pub fn run<R: BufRead + Drop, W: Write>(heap: Global, reader: R, writer: &mut W) -> io::Result<()>
-    ensures { OnOk result (IfSome (R.remaining reader) (λ input. (printed : List ℕ) × (ts : List Turn) × Appends (W.contents writer.old) (W.contents writer.new) printed × Run input printed ts)) }
+    ensures { IfSome (R.remaining reader) (λ input. (printed : List ℕ) × (ts : List Turn) × (more : List (List (List ℕ))) × (left : List ℕ) × Appends (W.contents writer.old) (W.contents writer.new) printed × Run input printed ts more left × OnOk result ((more ≡ []) × (left ≡ []))) }
 {
     let mut program = Program::new(heap);
     for line in reader.split(heap, b'\n') {
