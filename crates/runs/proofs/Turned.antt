@@ -1,5 +1,5 @@
 -- What one turn says: of the count, of the levels, bits and seed, and where a key or `accepted` is printed.
-use Rattle.std.proofs.Common.{◌≡◌, ℕ, zero, suc, ◌+◌, ◌*◌, ◌^◌, ◌<◌, ◌≤◌, Bool, true, false, ◌⊎◌, inl, inr, List, [], ◌∷◌, ◌++◌, get_or, None, Some, Ok, Err, Option, Result, String, vec_items, string_bytes, codes, sym, refl, ap, ◌∙◌, subst, arith}
+use Rattle.std.proofs.Common.{◌≡◌, ℕ, zero, suc, ◌+◌, ◌*◌, ◌^◌, ◌<◌, ◌≤◌, Bool, true, false, ◌⊎◌, inl, inr, List, [], ◌∷◌, ◌++◌, get_or, None, Some, Ok, Err, Option, Result, String, vec_items, string_bytes, codes, length, sym, refl, ap, ◌∙◌, subst, arith}
 use Rattle.std.specs.Option.{option_map}
 use Rattle.std.specs.declared.alloc.Global.{Global}
 use Rattle.std.proofs.lemmas.Bool.{ltb-true}
@@ -9,8 +9,10 @@ use Rattle.hash.proofs.Numbers.{bounded, bytes_back}
 use Rattle.sha256.specs.Rows.{row_hash}
 use Rattle.keys.specs.Refusals.{tree_refusal}
 use Rattle.keys.specs.declared.refusal.Refusal.{Refusal}
+use Rattle.keys.specs.declared.refusal.Refusal.TheVariants.{Line}
 use Rattle.keys.proofs.Refused.{levels_taken}
 use Rattle.tree.specs.Tree.{node}
+use Rattle.tree.specs.declared.own.Tree.{Tree}
 use Rattle.tree.proofs.Powers.{few_keys}
 use Rattle.signatures.specs.Lines.{signature_text}
 use Rattle.signatures.specs.Signatures.{Signature, signed, accepted}
@@ -25,7 +27,7 @@ use Rattle.signer.proofs.Entries.{taken, key_answered}
 use Rattle.digests.specs.Digests.{LocatedStrings}
 use Rattle.texts.specs.Bits.{bits_of_text}
 use Rattle.texts.specs.Commands.{Spelled}
-use Rattle.texts.specs.SignatureLines.{line_after, LinesAre, LinesOf, SignatureRead, signature_of}
+use Rattle.texts.specs.SignatureLines.{line_after, KeySpelled, LinesAre, LinesOf, signature_of}
 use Rattle.texts.specs.declared.command.Command.{Command}
 use Rattle.texts.specs.declared.command.Command.TheVariants.{Store, Levels, Root, Sign, Look, Power, Slot, State}
 use Rattle.texts.specs.declared.signature.ReadSignature.{ReadSignature}
@@ -68,8 +70,147 @@ AskedNext t s s₁ = IsLevels t s₁.tree.signer.levels s₁.tree.bits (value_of
 one_first : (t : Turn) (line other : List ℕ) (behind : List (List ℕ)) → t.typed ≡ line ∷ behind → Begins t other → line ≡ other
 one_first t line other behind e (rest, f) = let same = sym e ∙ f in cc
 
-not_levels : (t : Turn) (line : List ℕ) (behind : List (List ℕ)) → t.typed ≡ line ∷ behind → (get_or line 1 0 ≡ 101 → ⊥) → NotLevels t
-not_levels t line behind e second l n seed (rest, v, begins, spelled) = second (ap (λ (cs : List ℕ). get_or cs 1 0) (one_first t line (codes "levels " ++ rest) behind e begins))
+not_levels : (t : Turn) (line w : List ℕ) (behind : List (List ℕ)) → t.typed ≡ line ∷ behind → line ≡ w → (get_or w 1 0 ≡ 101 → ⊥) → NotLevels t
+not_levels t line w behind e is second l n seed (rest, v, begins, spelled, el, en, es) =
+    second (ap (λ (cs : List ℕ). get_or cs 1 0) (sym is ∙ one_first t line (codes "levels " ++ rest) behind e begins))
 
 pub levelled : (n : ℕ) (s s₁ : Session) (t : Turn) → Turned n s t s₁ → AskedNext t s s₁
-levelled n s s₁ t turn = ?
+levelled n s s₁ t (line, behind, e, inl (Store v, four, o, sp, lines, done, said, p)) = inr (not_levels t line _ behind e sp.1 (λ c. omega (arith, c)), done.1)
+levelled n s s₁ t (line, behind, e, inl (Levels v, four, o, sp, lines, done, said, p)) =
+    inl (sp.0, v, (behind, e ∙ ap (λ (x : List ℕ). x ∷ behind) sp.1), sp.2, ap (λ (a : Tree). a.signer.levels) (sym done.1), ap (λ (a : Tree). a.bits) (sym done.1), ap (λ (a : Tree). value_of a.signer.seed) (sym done.1))
+levelled n s s₁ t (line, behind, e, inl (Root, four, o, sp, lines, done, said, p)) = inr (not_levels t line _ behind e sp (λ c. omega (arith, c)), done.1)
+levelled n s s₁ t (line, behind, e, inl (Sign x, four, o, sp, lines, done, said, p)) = inr (not_levels t line _ behind e sp (λ c. omega (arith, c)), done.1)
+levelled n s s₁ t (line, behind, e, inl (Look r x, four, o, sp, lines, done, said, p)) = inr (not_levels t line _ behind e sp (λ c. omega (arith, c)), done.1)
+levelled n s s₁ t (line, behind, e, inl (Power k, four, o, sp, lines, done, said, p)) = inr (not_levels t line _ behind e sp.1 (λ c. omega (arith, c)), done.1)
+levelled n s s₁ t (line, behind, e, inl (Slot, four, o, sp, lines, done, said, p)) = inr (not_levels t line _ behind e sp (λ c. omega (arith, c)), done.1)
+levelled n s s₁ t (line, behind, e, inl (State, four, o, sp, lines, done, said, p)) = inr (not_levels t line _ behind e sp (λ c. omega (arith, c)), done.1)
+levelled n s s₁ t (line, behind, e, inr (unread, p, done)) =
+    inr ((λ l n seed (rest, v, begins, spelled, el, en, es). unread (Levels v) (rest, one_first t line (codes "levels " ++ rest) behind e begins, spelled)), done.1)
+
+-- What is printed. A key is printed where a `sign` is answered with the next one.
+abbrev pub own_signature : Session → (text : List ℕ) → (key : ℕ) → Signature
+own_signature s text k = signed row_hash (value_of s.tree.signer.seed) s.tree.signer.levels k (bits_of_text row_hash text s.tree.bits)
+
+abbrev pub AcceptedFor : Session → (text : List ℕ) → (key : ℕ) → Type 0
+AcceptedFor s text k =
+    accepted row_hash (node row_hash s.tree.bits (value_of s.tree.signer.seed) s.tree.signer.levels 0) s.tree.signer.levels (bits_of_text row_hash text s.tree.bits) (own_signature s text k) ≡ true
+
+pub record Signs (s : Session) (t : Turn) (s₁ : Session) (k : ℕ) : Type 0 where
+  pub text : List ℕ
+  pub begins : Begins t (codes "sign " ++ text)
+  pub shown : t.printed ≡ Some (signature_text (own_signature s text k))
+  pub for_root : AcceptedFor s text k
+  pub small : k < 2 ^ 64
+  pub was_next : k ≡ next (vec_items s.store)
+  pub now_next : next (vec_items s₁.store) ≡ k + 1
+  pub stays_sound : sound (vec_items s₁.store) ≡ true
+
+-- `accepted` is printed where a `look` finds the signer's own signature
+abbrev pub LooksOwn : Session → Turn → Type 0
+LooksOwn s t =
+    (root : ℕ) × (text : List ℕ) × (behind : List (List ℕ)) × (g : Signature) × (root < 2 ^ 256)
+    × (t.typed ≡ (codes "look " ++ (hex (bytes_of root) ++ (codes " " ++ text))) ∷ behind) × AreSignature behind g
+    × ((z l m : ℕ) → root ≡ node row_hash m z l 0 →
+    Own row_hash z l m s.tree.signer.levels (bits_of_text row_hash text s.tree.bits) g ⊎ LocatedStrings m z l (bits_of_text row_hash text s.tree.bits) g)
+
+-- what it tells that a text begins with a k, or is `accepted`
+pub record Shown (s : Session) (t : Turn) (s₁ : Session) : Type 0 where
+  pub key : (cs : List ℕ) → t.printed ≡ Some cs → get_or cs 0 0 ≡ 107 → (k : ℕ) × Signs s t s₁ k
+  pub own : t.printed ≡ Some (codes "accepted") → LooksOwn s t
+
+silent : (s s₁ : Session) (t : Turn) → t.printed ≡ None → Shown s t s₁
+silent s s₁ t p = record { key = λ cs e. absurd cc; own = λ e. absurd cc }
+
+quiet : (s s₁ : Session) (t : Turn) (cs : List ℕ) → t.printed ≡ Some cs → Other cs → Shown s t s₁
+quiet s s₁ t cs p other =
+    record {
+      key = λ ds e k. let same : cs ≡ ds = cc in absurd (other.0 (ap (λ (x : List ℕ). get_or x 0 0) same ∙ k));
+      own = λ e. let same : cs ≡ codes "accepted" = cc in absurd (other.1 same);
+    }
+
+said_text : (o : Option (String Global)) (cs : List ℕ) → Says o cs → option_map string_bytes o ≡ Some cs
+said_text (Some x) cs e = ap Some e
+said_text None cs e = absurd e
+
+text_said : (o : Option (String Global)) (cs : List ℕ) → option_map string_bytes o ≡ Some cs → Says o cs
+text_said (Some x) cs e = cc
+text_said None cs e = absurd cc
+
+sign_shown : (s s₁ : Session) (t : Turn) (x : List ℕ) (d : Done) → Begins t (codes "sign " ++ x) →
+    vec_items s₁.store ≡ stored s.tree.signer.levels (vec_items s.store) s.tree.bits (power_of s.power) →
+    d ≡ answer s.tree.signer.levels (vec_items s.store) s.tree.bits (power_of s.power) →
+    t.printed ≡ Some (sign_spelled d (own_signature s x (next (vec_items s.store)))) →
+    ((k : ℕ) → Key k ≡ answer s.tree.signer.levels (vec_items s.store) s.tree.bits (power_of s.power) → AcceptedFor s x k) → Shown s t s₁
+sign_shown s s₁ t x (Key k) begins held is p good =
+    let l = s.tree.signer.levels in
+    let m = vec_items s.store in
+    let at = key_answered l m s.tree.bits (power_of s.power) k is in
+    let passed = taken l m s.tree.bits at.0 in
+    let count = signed_counts l s.tree.bits (power_of s.power) m in
+    let text : t.printed ≡ Some (signature_text (own_signature s x k)) = p ∙ ap (λ (j : ℕ). Some (signature_text (own_signature s x j))) (sym at.2) in
+    let few = few_keys l (levels_taken l passed.0) in
+    let below = ltb-true _ _ at.1 in
+    record {
+      key = λ cs e first.
+        (k, record {
+          text = x;
+          begins = begins;
+          shown = text;
+          for_root = good k is;
+          small = omega (arith, few, below, at.2);
+          was_next = at.2;
+          now_next = ap next held ∙ (count.given k (sym is)).1;
+          stays_sound = ap sound held ∙ (count.keeps passed.1).0;
+        });
+      own = λ e.
+        let same : signature_text (own_signature s x k) ≡ codes "accepted" = cc in
+        absurd (omega (arith, ap (λ (cs : List ℕ). get_or cs 0 0) same));
+    }
+sign_shown s s₁ t x Cut begins held is p good = quiet s s₁ t (codes "cut") p (by_first (codes "cut") (λ e. omega (arith, e)) (λ e. omega (arith, e)))
+sign_shown s s₁ t x Empty begins held is p good = quiet s s₁ t (codes "all given") p ((λ e. omega (arith, e)), (λ e. omega (arith, ap length e)))
+sign_shown s s₁ t x (Refused r) begins held is p good = quiet s s₁ t _ p (refusal_other r)
+
+look_first : (b : Bool) → get_or (look_spelled b) 0 0 ≡ 107 → ⊥
+look_first true e = omega (arith, e)
+look_first false e = omega (arith, e)
+
+looked_first : (s : Session) (r : ℕ) (x : List ℕ) (g : Result ReadSignature Refusal) → get_or (look_answer row_hash s r x g) 0 0 ≡ 107 → ⊥
+looked_first s r x (Ok g) = look_first (accepted row_hash r s.tree.signer.levels (bits_of_text row_hash x s.tree.bits) (signature_of g))
+looked_first s r x (Err e) = (refusal_other e).0
+
+are_signature : (four : SignatureLines) (first : ℕ) (behind : List (List ℕ)) (g : Signature) → LinesAre four first behind → LinesOf g four → AreSignature behind g
+are_signature four first behind g lines parts =
+    (subst (λ (cs : List ℕ). KeySpelled cs g.key) lines.1 parts.0, sym lines.2 ∙ parts.1, sym lines.3 ∙ parts.2, sym lines.4 ∙ parts.3)
+
+pub shown : (n : ℕ) (s s₁ : Session) (t : Turn) → Turned n s t s₁ → Shown s t s₁
+shown n s s₁ t (line, behind, e, inl (Store v, four, o, sp, lines, done, said, p)) = silent s s₁ t (p ∙ ap (option_map string_bytes) said)
+shown n s s₁ t (line, behind, e, inl (Levels v, four, o, sp, lines, done, said, p)) = silent s s₁ t (p ∙ ap (option_map string_bytes) said)
+shown n s s₁ t (line, behind, e, inl (Root, four, o, sp, lines, done, said, p)) =
+    quiet s s₁ t _ (p ∙ said_text o _ said) (refused_or (tree_refusal s.tree.signer.levels s.tree.bits) _ (number_other (node row_hash s.tree.bits (value_of s.tree.signer.seed) s.tree.signer.levels 0)))
+shown n s s₁ t (line, behind, e, inl (Sign x, four, o, sp, lines, done, said, p)) =
+    sign_shown s s₁ t (vec_items x) _ (behind, e ∙ ap (λ (cs : List ℕ). cs ∷ behind) sp) done.0 refl (p ∙ said_text o _ said) (λ k is. (promised row_hash s (Sign x) four o said k is).1)
+shown n s s₁ t (line, behind, e, inl (Look r x, four, o, sp, lines, done, said, p)) =
+    record {
+      key = λ cs f first.
+        let text : t.printed ≡ Some (look_answer row_hash s (value_of r) (vec_items x) said.0) = p ∙ said_text o _ said.2 in
+        let same : look_answer row_hash s (value_of r) (vec_items x) said.0 ≡ cs = cc in
+        absurd (looked_first s (value_of r) (vec_items x) said.0 (ap (λ (c : List ℕ). get_or c 0 0) same ∙ first));
+      own = λ f.
+        let y = promised_strings s (Look r x) four o (promised row_hash s (Look r x) four o said) (text_said o _ (sym p ∙ f)) in
+        let typed = e ∙ ap (λ (cs : List ℕ). cs ∷ behind) (sp ∙ ap (λ (bs : List ℕ). codes "look " ++ (hex bs ++ (codes " " ++ vec_items x))) (bytes_back r)) in
+        (value_of r, vec_items x, behind, signature_of y.0, bounded r, typed, are_signature four (line_after n 1) behind (signature_of y.0) lines y.1, y.2);
+    }
+shown n s s₁ t (line, behind, e, inl (Power k, four, o, sp, lines, done, said, p)) = silent s s₁ t (p ∙ ap (option_map string_bytes) said)
+shown n s s₁ t (line, behind, e, inl (Slot, four, o, sp, lines, done, said, p)) = quiet s s₁ t _ (p ∙ said_text o _ said) (by_first _ (λ c. omega (arith, c)) (λ c. omega (arith, c)))
+shown n s s₁ t (line, behind, e, inl (State, four, o, sp, lines, done, said, p)) = quiet s s₁ t _ (p ∙ said_text o _ said) (by_first _ (λ c. omega (arith, c)) (λ c. omega (arith, c)))
+shown n s s₁ t (line, behind, e, inr (unread, p, done)) = quiet s s₁ t _ p (refusal_other (Line n))
+
+pub key_printed : (n k : ℕ) (s s₁ : Session) (t : Turn) → Turned n s t s₁ → PrintsKey t k → Signs s t s₁ k
+unfolding signed
+key_printed n k s s₁ t turn (line, rest, p, named) =
+    let ds = named.0 in
+    let first = ap (λ (cs : List ℕ). get_or (cs ++ (10 ∷ rest)) 0 0) named.1 in
+    let found = (shown n s s₁ t turn).key (line ++ (10 ∷ rest)) p first in
+    let sign = found.1 in
+    let same : signature_text (own_signature s sign.text found.0) ≡ line ++ (10 ∷ rest) = let text = sign.shown in cc in
+    subst (Signs s t s₁) (key_named (own_signature s sign.text found.0) line rest k sign.small same named) sign
