@@ -1,18 +1,20 @@
 -- A run so far: what was read is cut into turns, each was answered, and the rest is still to come.
-use Rattle.std.proofs.Common.{◌≡◌, ℕ, ◌<◌, Bool, true, false, List, [], ◌∷◌, ◌++◌, map, length, None, Some, Option, IfSome, MatchOption, sym, refl, ap, ◌∙◌, subst, arith, append_assoc, append-nil}
+use Rattle.std.proofs.Common.{◌≡◌, ℕ, ◌<◌, Bool, true, false, List, [], ◌∷◌, ◌++◌, map, length, None, Some, Option, Result, IfSome, OnOk, MatchOption, sym, refl, ap, ◌∙◌, subst, arith, append_assoc, append-nil}
 use Rattle.std.specs.List.{flat_map}
 use Rattle.std.proofs.lemmas.Bool.{cond-true, cond-false}
 use Rattle.std.proofs.lemmas.List.{map-append}
 use Rattle.std.proofs.lemmas.Option.{same_Some}
 use Rattle.std.specs.Io.BufRead.{first_piece, drop_through, DropsThrough}
 use Rattle.std.specs.Io.KnownBytes.{Appends, IsAtEnd}
+use Rattle.std.proofs.lemmas.Result.{on_ok_weaker}
 use Rattle.reading.specs.Newlines.{lines_of}
 use Rattle.reading.proofs.Pieces.{next_line}
 use Rattle.texts.specs.SignatureLines.{line_after}
 use Rattle.sessions.specs.declared.session.Session.{Session}
 use Rattle.runs.specs.Turns.{whole, last_turn, turns_from, turns_of, Turn, bytes_printed}
 use Rattle.runs.specs.Steps.{Turned, Ran, Fresh, taken, EndsTurn, Stepped, Finished}
-use Rattle.runs.specs.Runs.{Run}
+use Rattle.runs.specs.Runs.{AppendsFront, Run}
+use Rattle.runs.proofs.Appended.{appends_nothing, appends_both}
 use Rattle.runs.specs.declared.program.Program.{Program}
 use Rattle.runs.proofs.Promised.{promised}
 
@@ -85,55 +87,77 @@ pub more : (input left left₁ printed line : List ℕ) (p p₁ : Program) (o : 
     Progress input left₁ (printed ++ bytes_printed o) p₁
 more input left left₁ printed line p p₁ o = more_of (whole (taken p ++ (line ∷ []))) input left left₁ printed line p p₁ o refl
 
-as_run : (input printed : List ℕ) (p : Program) → taken p ≡ [] → Progress input [] printed p → (ts : List Turn) × Run input printed ts
-unfolding turns_from
-as_run input printed p none g =
-    let rest = ap (λ (ls : List (List ℕ)). map typed_of g.turns ++ turns_from ls []) none ∙ append-nil (map typed_of g.turns) in
-    (g.turns, record {
-      typed = sym (g.cut ∙ rest);
-      shown = g.shown;
-      answered = (g.ran.0, p.number, p.session, g.ran.1, g.ran.2);
-      promised = promised g.turns 0 p.number g.ran.0 p.session g.ran.1 g.ran.2;
-    })
-
+-- the end of the input was read, and no line of a turn is waited for
 done_of : (input printed : List ℕ) (ls : List (List ℕ)) (p p₁ : Program) (o : Option (List ℕ)) → taken p ≡ ls → Progress input [] printed p → Finished p o p₁ →
-    (ts : List Turn) × Run input (printed ++ bytes_printed o) ts
+    (taken p₁ ≡ []) × Progress input [] (printed ++ bytes_printed o) p₁
 unfolding turns_from
 done_of input printed [] p p₁ o e g f =
     let k = f.nothing e in
-    as_run input (printed ++ bytes_printed o) p e (subst (λ (x : Option (List ℕ)). Progress input [] (printed ++ bytes_printed x) p) (sym k.0) (subst (λ (cs : List ℕ). Progress input [] cs p) (sym (append-nil printed)) g))
+    let same = subst (λ (x : Option (List ℕ)). Progress input [] (printed ++ bytes_printed x) p) (sym k.0) (subst (λ (cs : List ℕ). Progress input [] cs p) (sym (append-nil printed)) g) in
+    (ap taken k.1 ∙ e, subst (λ (q : Program). Progress input [] (printed ++ bytes_printed o) q) (sym k.1) same)
 done_of input printed (l ∷ ls) p p₁ o e g f =
     let turn = f.ends (omega (arith, ap length e)) in
     let next : turns_from (taken p) [] ≡ taken p ∷ [] = ap last_turn e ∙ ap (λ (x : List (List ℕ)). x ∷ []) (sym e) in
-    as_run input (printed ++ bytes_printed o) p₁ turn.1 (ended input [] [] printed p p₁ (taken p) o g next turn)
+    (turn.1, ended input [] [] printed p p₁ (taken p) o g next turn)
 
--- the end of the input was read, and what is printed for that
-pub done : (input printed : List ℕ) (p p₁ : Program) (o : Option (List ℕ)) → Progress input [] printed p → Finished p o p₁ → (ts : List Turn) × Run input (printed ++ bytes_printed o) ts
-done input printed p p₁ o = done_of input printed (taken p) p p₁ o refl
+-- the same of bytes that may be known, where these are still to be printed
+abbrev pub Known : (input left before now : Option (List ℕ)) → List ℕ → Program → Type 0
+Known input left before now bytes p = IfSome input (λ xs. (printed : List ℕ) × Appends before now printed × MatchOption left ⊥ (λ ys. Progress xs ys (printed ++ bytes) p))
 
--- the same of bytes that may be known
-abbrev pub Known : (input left before now : Option (List ℕ)) → Program → Type 0
-Known input left before now p = IfSome input (λ xs. (printed : List ℕ) × Appends before now printed × MatchOption left ⊥ (λ ys. Progress xs ys printed p))
-
-pub known_begun : (input left now : Option (List ℕ)) (p : Program) → left ≡ input → Fresh p.session → taken p ≡ [] → p.number ≡ 0 → Known input left now now p
+pub known_begun : (input left now : Option (List ℕ)) (p : Program) → left ≡ input → Fresh p.session → taken p ≡ [] → p.number ≡ 0 → Known input left now now [] p
 known_begun None left now p e fresh none zero = tt
 known_begun (Some xs) None now p e fresh none zero = absurd cc
 known_begun (Some xs) (Some ys) now p e fresh none zero =
     ([], appends_nothing now, subst (λ (l : List ℕ). Progress xs l [] p) (sym (same_Some _ _ e)) (begun xs p fresh none zero))
 
-pub known_more : (input left left₁ before now now₁ : Option (List ℕ)) (p p₁ : Program) (line : List ℕ) (o : Option (List ℕ)) → Known input left before now p →
-    IfSome left (λ xs. (0 < length xs) × (line ≡ first_piece 10 xs)) → DropsThrough left left₁ 10 → Stepped p line o p₁ → Appends now now₁ (bytes_printed o) → Known input left₁ before now₁ p₁
-known_more None left left₁ before now now₁ p p₁ line o k read dropped s a = tt
-known_more (Some xs) None left₁ before now now₁ p p₁ line o k read dropped s a = absurd k.2
-known_more (Some xs) (Some ys) None before now now₁ p p₁ line o k read dropped s a = absurd cc
-known_more (Some xs) (Some ys) (Some zs) before now now₁ p p₁ line o k read dropped s a =
+-- a line was read, and taken
+pub known_more : (input left left₁ before now : Option (List ℕ)) (p p₁ : Program) (line : List ℕ) (o : Option (List ℕ)) → Known input left before now [] p →
+    IfSome left (λ xs. (0 < length xs) × (line ≡ first_piece 10 xs)) → DropsThrough left left₁ 10 → Stepped p line o p₁ → Known input left₁ before now (bytes_printed o) p₁
+known_more None left left₁ before now p p₁ line o k read dropped s = tt
+known_more (Some xs) None left₁ before now p p₁ line o k read dropped s = absurd k.2
+known_more (Some xs) (Some ys) None before now p p₁ line o k read dropped s = absurd cc
+known_more (Some xs) (Some ys) (Some zs) before now p p₁ line o k read dropped s =
     let rest = same_Some _ _ dropped in
     let next = next_line ys read.0 ∙ (ap (λ (l : List ℕ). l ∷ lines_of (drop_through 10 ys)) (sym read.1) ∙ ap (λ (l : List ℕ). line ∷ lines_of l) (sym rest)) in
-    (k.0 ++ bytes_printed o, appends_both before now now₁ k.0 (bytes_printed o) k.1 a, more xs ys zs k.0 line p p₁ o k.2 next s)
+    (k.0, k.1, more xs ys zs k.0 line p p₁ o (subst (λ (l : List ℕ). Progress xs ys l p) (append-nil k.0) k.2) next s)
 
-pub known_done : (input left before now now₁ : Option (List ℕ)) (p p₁ : Program) (o : Option (List ℕ)) → Known input left before now p → IsAtEnd left → Finished p o p₁ → Appends now now₁ (bytes_printed o) →
-    IfSome input (λ xs. (printed : List ℕ) × (ts : List Turn) × Appends before now₁ printed × Run xs printed ts)
-known_done None left before now now₁ p p₁ o k end f a = tt
-known_done (Some xs) None before now now₁ p p₁ o k end f a = absurd k.2
-known_done (Some xs) (Some ys) before now now₁ p p₁ o k end f a =
-    let r = done xs k.0 p p₁ o (subst (λ (l : List ℕ). Progress xs l k.0 p) end k.2) f in (k.0 ++ bytes_printed o, r.0, appends_both before now now₁ k.0 (bytes_printed o) k.1 a, r.1)
+-- a front part was written of what is to be printed
+pub known_written : (input left before now now₁ : Option (List ℕ)) (bytes rest : List ℕ) (p : Program) → Known input left before now bytes p → AppendsFront now now₁ bytes rest → Known input left before now₁ rest p
+known_written None left before now now₁ bytes rest p k a = tt
+known_written (Some xs) None before now now₁ bytes rest p k a = absurd k.2
+known_written (Some xs) (Some ys) before now now₁ bytes rest p k a =
+    let whole = ap (λ (l : List ℕ). k.0 ++ l) a.1 ∙ sym (append_assoc k.0 a.0 rest) in
+    (k.0 ++ a.0, appends_both before now now₁ k.0 a.0 k.1 a.2, subst (λ (l : List ℕ). Progress xs ys l p) whole k.2)
+
+-- all of it was
+pub known_printed : (input left before now now₁ : Option (List ℕ)) (bytes rest : List ℕ) (p : Program) → Known input left before now bytes p → AppendsFront now now₁ bytes rest → rest ≡ [] →
+    Known input left before now₁ [] p
+known_printed input left before now now₁ bytes rest p k a e = subst (λ (l : List ℕ). Known input left before now₁ l p) e (known_written input left before now now₁ bytes rest p k a)
+
+-- the end of the input was read
+pub known_done : (input left before now : Option (List ℕ)) (p p₁ : Program) (o : Option (List ℕ)) → Known input left before now [] p → IsAtEnd left → Finished p o p₁ →
+    Known input left before now (bytes_printed o) p₁ × IfSome input (λ _. taken p₁ ≡ [])
+known_done None left before now p p₁ o k end f = (tt, tt)
+known_done (Some xs) None before now p p₁ o k end f = absurd k.2
+known_done (Some xs) (Some ys) before now p p₁ o k end f =
+    let so_far = subst (λ (l : List ℕ). Progress xs l k.0 p) end (subst (λ (l : List ℕ). Progress xs ys l p) (append-nil k.0) k.2) in
+    let d = done_of xs k.0 (taken p) p p₁ o refl so_far f in ((k.0, k.1, subst (λ (l : List ℕ). Progress xs l (k.0 ++ bytes_printed o) p₁) (sym end) d.1), d.0)
+
+-- a run that ends, well or not
+abbrev pub Ended : {E : Type 0} → (input before now : Option (List ℕ)) → Result (Unit {0}) E → Type 0
+Ended input before now r = IfSome input (λ xs. (printed : List ℕ) × (ts : List Turn) × (to_come : List (List (List ℕ))) × (left : List ℕ) × Appends before now printed × Run xs printed ts to_come left × OnOk r ((to_come ≡ []) × (left ≡ [])))
+
+pub known_ended : {E : Type 0} (r : Result (Unit {0}) E) (input left before now : Option (List ℕ)) (bytes : List ℕ) (p : Program) → Known input left before now bytes p →
+    OnOk r (IsAtEnd left × IfSome input (λ _. taken p ≡ []) × (bytes ≡ [])) → Ended input before now r
+unfolding turns_from
+known_ended r None left before now bytes p k ok = tt
+known_ended r (Some xs) None before now bytes p k ok = absurd k.2
+known_ended r (Some xs) (Some ys) before now bytes p k ok =
+    let g = k.2 in
+    let run : Run xs k.0 g.turns (turns_from (taken p) (lines_of ys)) bytes = record {
+      typed = g.cut;
+      shown = sym g.shown;
+      answered = (g.ran.0, p.number, p.session, g.ran.1, g.ran.2);
+      promised = promised g.turns 0 p.number g.ran.0 p.session g.ran.1 g.ran.2;
+    } in
+    (k.0, g.turns, turns_from (taken p) (lines_of ys), bytes, k.1, run, on_ok_weaker r (λ e. (ap (λ (l : List ℕ). turns_from (taken p) (lines_of l)) e.0 ∙ ap last_turn e.1, e.2)) ok)

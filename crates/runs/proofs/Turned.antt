@@ -1,5 +1,5 @@
 -- What one turn says: of the count, of the levels, bits and seed, and where a key or `accepted` is printed.
-use Rattle.std.proofs.Common.{◌≡◌, ℕ, zero, suc, ◌+◌, ◌*◌, ◌^◌, ◌<◌, ◌≤◌, Bool, true, false, ◌⊎◌, inl, inr, List, [], ◌∷◌, ◌++◌, get_or, None, Some, Ok, Err, Option, Result, String, vec_items, string_bytes, codes, length, sym, refl, ap, ◌∙◌, subst, arith}
+use Rattle.std.proofs.Common.{◌≡◌, ℕ, ◌+◌, ◌^◌, ◌<◌, Bool, true, false, ◌⊎◌, inl, inr, List, [], ◌∷◌, ◌++◌, get_or, None, Some, Ok, Err, Option, Result, String, vec_items, string_bytes, codes, length, sym, refl, ap, ◌∙◌, subst, arith}
 use Rattle.std.specs.Option.{option_map}
 use Rattle.std.specs.declared.alloc.Global.{Global}
 use Rattle.std.proofs.lemmas.Bool.{ltb-true}
@@ -17,7 +17,7 @@ use Rattle.tree.proofs.Powers.{few_keys}
 use Rattle.signatures.specs.Lines.{signature_text}
 use Rattle.signatures.specs.Signatures.{Signature, signed, accepted}
 use Rattle.counter.specs.Reserving.{KeepsCount, Counts}
-use Rattle.counter.specs.Store.{next, sound, counting}
+use Rattle.counter.specs.Store.{next, sound}
 use Rattle.counter.specs.declared.answer.Done.{Done}
 use Rattle.counter.specs.declared.answer.Done.TheVariants.{Key, Cut, Empty, Refused}
 use Rattle.counter.proofs.Counts.{counts}
@@ -26,14 +26,12 @@ use Rattle.signer.specs.Promises.{Own}
 use Rattle.signer.proofs.Entries.{taken, key_answered}
 use Rattle.digests.specs.Digests.{LocatedStrings}
 use Rattle.texts.specs.Bits.{bits_of_text}
-use Rattle.texts.specs.Commands.{Spelled}
 use Rattle.texts.specs.SignatureLines.{line_after, KeySpelled, LinesAre, LinesOf, signature_of}
-use Rattle.texts.specs.declared.command.Command.{Command}
 use Rattle.texts.specs.declared.command.Command.TheVariants.{Store, Levels, Root, Sign, Look, Power, Slot, State}
 use Rattle.texts.specs.declared.signature.ReadSignature.{ReadSignature}
 use Rattle.texts.specs.declared.signature.SignatureLines.{SignatureLines}
-use Rattle.sessions.specs.Replies.{sign_spelled, look_spelled, counts_line}
-use Rattle.sessions.specs.Sessions.{Says, Executed, Answered, power_of, sign_answer, look_answer}
+use Rattle.sessions.specs.Replies.{sign_spelled, look_spelled}
+use Rattle.sessions.specs.Sessions.{Says, power_of, look_answer}
 use Rattle.sessions.specs.declared.session.Session.{Session}
 use Rattle.sessions.proofs.Promised.{promised, promised_strings}
 use Rattle.runs.specs.Turns.{Turn}

@@ -1,5 +1,5 @@
 -- What is promised of the turns of any run, in words of what was typed and what was printed. Assumes nothing: these are definitions.
-use Rattle.std.specs.Prelude.{◌≡◌, ℕ, ◌^◌, ◌<◌, true, ◌⊎◌, All, List, [], ◌∷◌, ◌++◌, Some, codes}
+use Rattle.std.specs.Prelude.{◌≡◌, ℕ, ◌<◌, true, ◌⊎◌, All, List, ◌∷◌, ◌++◌, Some, codes}
 use Rattle.hash.specs.Hex.{hex}
 use Rattle.hash.specs.Value.{bytes_of, value_of}
 use Rattle.sha256.specs.Rows.{row_hash}

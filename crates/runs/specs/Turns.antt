@@ -1,5 +1,5 @@
 -- The program's turns: a line, or a `look` with the four lines behind it, and the text that is printed for it. Assumes nothing: these are definitions.
-use Rattle.std.specs.Prelude.{◌≡◌, ℕ, Bool, true, false, if◌then◌else◌, List, [], ◌∷◌, ◌++◌, length, Some, None, Option, nat_le}
+use Rattle.std.specs.Prelude.{ℕ, Bool, true, false, if◌then◌else◌, List, [], ◌∷◌, ◌++◌, length, Some, None, Option, nat_le}
 use Rattle.texts.specs.Commands.{takes_four}
 
 -- lines are all that a turn takes: one, or five where the first is a `look`

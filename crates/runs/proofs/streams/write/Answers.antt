@@ -1,5 +1,5 @@
 -- What the writer took is gone from `left`.
-use Rattle.std.proofs.Common.{ℕ, List, ◌++◌, take, drop, sym, ap, ◌∙◌, take-append-drop}
+use Rattle.std.proofs.Common.{ℕ, List, ◌++◌, take, sym, ap, ◌∙◌, take-append-drop}
 use Rattle.std.proofs.lemmas.List.{take_rest}
 use Rattle.runs.proofs.Appended.{front_more}
 use Rattle.runs.proofs.streams.write.Goals as goal
