@@ -1,5 +1,5 @@
 -- What is promised of the turns of any run, from what each of them says.
-use Rattle.std.proofs.Common.{◌≡◌, ℕ, ◌+◌, ◌≤◌, true, ◌⊎◌, inl, inr, All, List, [], ◌∷◌, ◌++◌, length, Some, vec_items, codes, sym, refl, ap, ◌∙◌, subst, arith}
+use Rattle.std.proofs.Common.{◌≡◌, ℕ, ◌+◌, ◌⊎◌, inl, inr, All, List, [], ◌∷◌, ◌++◌, length, vec_items, sym, refl, ap, ◌∙◌, subst, arith}
 use Rattle.std.proofs.lemmas.List.Elements.{All-nil, All-cons, All-head, All-tail}
 use Rattle.hash.specs.Value.{value_of}
 use Rattle.tree.specs.declared.own.Tree.{Tree}
@@ -8,8 +8,8 @@ use Rattle.texts.specs.SignatureLines.{line_after}
 use Rattle.sessions.specs.declared.session.Session.{Session}
 use Rattle.runs.specs.Turns.{Turn}
 use Rattle.runs.specs.Steps.{Turned, Ran, Fresh}
-use Rattle.runs.specs.Promises.{IsStore, IsLevels, NoLevels, AskedWith, PrintsKey, KeysRise, SignaturesAccepted, LookedOwn, Promised}
-use Rattle.runs.proofs.Turned.{counted, NotLevels, levelled, Signs, shown, key_printed}
+use Rattle.runs.specs.Promises.{IsStore, IsLevels, NoLevels, AskedWith, KeysRise, SignaturesAccepted, LookedOwn, Promised}
+use Rattle.runs.proofs.Turned.{counted, NotLevels, levelled, shown, key_printed}
 
 -- a run as far as one of its turns, that turn, and the rest
 abbrev pub AtTurn : ℕ → Session → (before : List Turn) → Turn → (after : List Turn) → ℕ → Session → Type 0
