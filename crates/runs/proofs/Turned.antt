@@ -26,12 +26,14 @@ use Rattle.signer.specs.Promises.{Own}
 use Rattle.signer.proofs.Entries.{taken, key_answered}
 use Rattle.digests.specs.Digests.{LocatedStrings}
 use Rattle.texts.specs.Bits.{bits_of_text}
+use Rattle.texts.specs.Commands.{LevelsSpelled, StoreSpelled, Spelled}
 use Rattle.texts.specs.SignatureLines.{line_after, KeySpelled, LinesAre, LinesOf, signature_of}
+use Rattle.texts.specs.declared.command.Command.{Command}
 use Rattle.texts.specs.declared.command.Command.TheVariants.{Store, Levels, Root, Sign, Look, Power, Slot, State}
 use Rattle.texts.specs.declared.signature.ReadSignature.{ReadSignature}
 use Rattle.texts.specs.declared.signature.SignatureLines.{SignatureLines}
 use Rattle.sessions.specs.Replies.{sign_spelled, look_spelled}
-use Rattle.sessions.specs.Sessions.{Says, power_of, look_answer}
+use Rattle.sessions.specs.Sessions.{Says, Executed, Answered, power_of, look_answer}
 use Rattle.sessions.specs.declared.session.Session.{Session}
 use Rattle.sessions.proofs.Promised.{promised, promised_strings}
 use Rattle.runs.specs.Turns.{Turn}
@@ -46,16 +48,16 @@ signed_counts l n w m = counts (Some w) (refusal l m n) l m (answer l m n w) [] 
 same_store : (m m₁ : List ℕ) → m₁ ≡ m → KeepsCount m m₁
 same_store m m₁ e s = (ap sound e ∙ s, omega (arith, ap next e))
 
-pub counted : (n : ℕ) (s s₁ : Session) (t : Turn) → Turned n s t s₁ → (IsStore t → ⊥) → KeepsCount (vec_items s.store) (vec_items s₁.store)
-counted n s s₁ t (line, behind, e, inl (Store v, four, o, sp, lines, done, said, p)) none = absurd (none (sp.0, vec_items v, (behind, e ∙ ap (λ (x : List ℕ). x ∷ behind) sp.1), sp.2))
-counted n s s₁ t (line, behind, e, inl (Levels v, four, o, sp, lines, done, said, p)) none = same_store _ _ done.0
-counted n s s₁ t (line, behind, e, inl (Root, four, o, sp, lines, done, said, p)) none = same_store _ _ done.0
-counted n s s₁ t (line, behind, e, inl (Sign x, four, o, sp, lines, done, said, p)) none =
+counts_by : (c : Command) (line : List ℕ) (s s₁ : Session) → Spelled line c → Executed s c s₁ → ((rest vs : List ℕ) → line ≡ codes "store" ++ rest → StoreSpelled rest vs → ⊥) →
+    KeepsCount (vec_items s.store) (vec_items s₁.store)
+counts_by (Store v) line s s₁ sp done none = absurd (none sp.0 (vec_items v) sp.1 sp.2)
+counts_by (Sign x) line s s₁ sp done none =
     subst (KeepsCount (vec_items s.store)) (sym done.0) (signed_counts s.tree.signer.levels s.tree.bits (power_of s.power) (vec_items s.store)).keeps
-counted n s s₁ t (line, behind, e, inl (Look r x, four, o, sp, lines, done, said, p)) none = same_store _ _ done.0
-counted n s s₁ t (line, behind, e, inl (Power k, four, o, sp, lines, done, said, p)) none = same_store _ _ done.0
-counted n s s₁ t (line, behind, e, inl (Slot, four, o, sp, lines, done, said, p)) none = same_store _ _ done.0
-counted n s s₁ t (line, behind, e, inl (State, four, o, sp, lines, done, said, p)) none = same_store _ _ done.0
+counts_by c line s s₁ sp done none = same_store _ _ done.0
+
+pub counted : (n : ℕ) (s s₁ : Session) (t : Turn) → Turned n s t s₁ → (IsStore t → ⊥) → KeepsCount (vec_items s.store) (vec_items s₁.store)
+counted n s s₁ t (line, behind, e, inl (c, four, o, sp, lines, done, said, p)) none =
+    counts_by c line s s₁ sp done (λ rest vs is spelled. none (rest, vs, (behind, e ∙ ap (λ (cs : List ℕ). cs ∷ behind) is), spelled))
 counted n s s₁ t (line, behind, e, inr (unread, p, done)) none = same_store _ _ done.0
 
 -- The levels, bits and seed: a `levels` line sets them, and no other turn does. Of all commands `levels` alone has an e in second place.
@@ -65,25 +67,24 @@ NotLevels t = (l n seed : ℕ) → IsLevels t l n seed → ⊥
 abbrev pub AskedNext : Turn → (before after : Session) → Type 0
 AskedNext t s s₁ = IsLevels t s₁.tree.signer.levels s₁.tree.bits (value_of s₁.tree.signer.seed) ⊎ (NotLevels t × (s₁.tree ≡ s.tree))
 
-one_first : (t : Turn) (line other : List ℕ) (behind : List (List ℕ)) → t.typed ≡ line ∷ behind → Begins t other → line ≡ other
-one_first t line other behind e (rest, f) = let same = sym e ∙ f in cc
+not_levels : (t : Turn) (line : List ℕ) (behind : List (List ℕ)) → t.typed ≡ line ∷ behind → ((rest : List ℕ) (v : Tree) → line ≡ codes "levels " ++ rest → LevelsSpelled rest v → ⊥) → NotLevels t
+not_levels t line behind e none l n seed (rest, v, (others, f), spelled, el, en, es) =
+    let same = sym e ∙ f in
+    let first : line ≡ codes "levels " ++ rest = cc in none rest v first spelled
 
-not_levels : (t : Turn) (line w : List ℕ) (behind : List (List ℕ)) → t.typed ≡ line ∷ behind → line ≡ w → (get_or w 1 0 ≡ 101 → ⊥) → NotLevels t
-not_levels t line w behind e is second l n seed (rest, v, begins, spelled, el, en, es) =
-    second (ap (λ (cs : List ℕ). get_or cs 1 0) (sym is ∙ one_first t line (codes "levels " ++ rest) behind e begins))
+no_e : (w line : List ℕ) → line ≡ w → (get_or w 1 0 ≡ 101 → ⊥) → (rest : List ℕ) (v : Tree) → line ≡ codes "levels " ++ rest → LevelsSpelled rest v → ⊥
+no_e w line is other rest v levels spelled = other (ap (λ (cs : List ℕ). get_or cs 1 0) (sym is ∙ levels))
+
+levelled_by : (c : Command) (t : Turn) (line : List ℕ) (behind : List (List ℕ)) (s s₁ : Session) → t.typed ≡ line ∷ behind → Spelled line c → Executed s c s₁ → AskedNext t s s₁
+levelled_by (Levels v) t line behind s s₁ e sp done =
+    inl (subst (λ (a : Tree). IsLevels t a.signer.levels a.bits (value_of a.signer.seed)) (sym done.1) (sp.0, v, (behind, e ∙ ap (λ (x : List ℕ). x ∷ behind) sp.1), sp.2, refl, refl, refl))
+levelled_by (Store v) t line behind s s₁ e sp done = inr (not_levels t line behind e (no_e _ line sp.1 (λ c. omega (arith, c))), done.1)
+levelled_by (Power k) t line behind s s₁ e sp done = inr (not_levels t line behind e (no_e _ line sp.1 (λ c. omega (arith, c))), done.1)
+levelled_by c t line behind s s₁ e sp done = inr (not_levels t line behind e (no_e _ line sp (λ c. omega (arith, c))), done.1)
 
 pub levelled : (n : ℕ) (s s₁ : Session) (t : Turn) → Turned n s t s₁ → AskedNext t s s₁
-levelled n s s₁ t (line, behind, e, inl (Store v, four, o, sp, lines, done, said, p)) = inr (not_levels t line _ behind e sp.1 (λ c. omega (arith, c)), done.1)
-levelled n s s₁ t (line, behind, e, inl (Levels v, four, o, sp, lines, done, said, p)) =
-    inl (sp.0, v, (behind, e ∙ ap (λ (x : List ℕ). x ∷ behind) sp.1), sp.2, ap (λ (a : Tree). a.signer.levels) (sym done.1), ap (λ (a : Tree). a.bits) (sym done.1), ap (λ (a : Tree). value_of a.signer.seed) (sym done.1))
-levelled n s s₁ t (line, behind, e, inl (Root, four, o, sp, lines, done, said, p)) = inr (not_levels t line _ behind e sp (λ c. omega (arith, c)), done.1)
-levelled n s s₁ t (line, behind, e, inl (Sign x, four, o, sp, lines, done, said, p)) = inr (not_levels t line _ behind e sp (λ c. omega (arith, c)), done.1)
-levelled n s s₁ t (line, behind, e, inl (Look r x, four, o, sp, lines, done, said, p)) = inr (not_levels t line _ behind e sp (λ c. omega (arith, c)), done.1)
-levelled n s s₁ t (line, behind, e, inl (Power k, four, o, sp, lines, done, said, p)) = inr (not_levels t line _ behind e sp.1 (λ c. omega (arith, c)), done.1)
-levelled n s s₁ t (line, behind, e, inl (Slot, four, o, sp, lines, done, said, p)) = inr (not_levels t line _ behind e sp (λ c. omega (arith, c)), done.1)
-levelled n s s₁ t (line, behind, e, inl (State, four, o, sp, lines, done, said, p)) = inr (not_levels t line _ behind e sp (λ c. omega (arith, c)), done.1)
-levelled n s s₁ t (line, behind, e, inr (unread, p, done)) =
-    inr ((λ l n seed (rest, v, begins, spelled, el, en, es). unread (Levels v) (rest, one_first t line (codes "levels " ++ rest) behind e begins, spelled)), done.1)
+levelled n s s₁ t (line, behind, e, inl (c, four, o, sp, lines, done, said, p)) = levelled_by c t line behind s s₁ e sp done
+levelled n s s₁ t (line, behind, e, inr (unread, p, done)) = inr (not_levels t line behind e (λ rest v is spelled. unread (Levels v) (rest, is, spelled)), done.1)
 
 -- What is printed. A key is printed where a `sign` is answered with the next one.
 abbrev pub own_signature : Session → (text : List ℕ) → (key : ℕ) → Signature
@@ -149,8 +150,9 @@ sign_shown s s₁ t x (Key k) begins held is p good =
     let few = few_keys l (levels_taken l passed.0) in
     let below = ltb-true _ _ at.1 in
     record {
-      key = λ cs e first.
-        (k, record {
+      key = λ cs e first. (
+        k,
+        record {
           text = x;
           begins = begins;
           shown = text;
@@ -159,10 +161,11 @@ sign_shown s s₁ t x (Key k) begins held is p good =
           was_next = at.2;
           now_next = ap next held ∙ (count.given k (sym is)).1;
           stays_sound = ap sound held ∙ (count.keeps passed.1).0;
-        });
+        },
+      );
       own = λ e.
-        let same : signature_text (own_signature s x k) ≡ codes "accepted" = cc in
-        absurd (omega (arith, ap (λ (cs : List ℕ). get_or cs 0 0) same));
+          let same : signature_text (own_signature s x k) ≡ codes "accepted" = cc in
+          absurd (omega (arith, ap (λ (cs : List ℕ). get_or cs 0 0) same));
     }
 sign_shown s s₁ t x Cut begins held is p good = quiet s s₁ t (codes "cut") p (by_first (codes "cut") (λ e. omega (arith, e)) (λ e. omega (arith, e)))
 sign_shown s s₁ t x Empty begins held is p good = quiet s s₁ t (codes "all given") p ((λ e. omega (arith, e)), (λ e. omega (arith, ap length e)))
@@ -180,33 +183,34 @@ are_signature : (four : SignatureLines) (first : ℕ) (behind : List (List ℕ))
 are_signature four first behind g lines parts =
     (subst (λ (cs : List ℕ). KeySpelled cs g.key) lines.1 parts.0, sym lines.2 ∙ parts.1, sym lines.3 ∙ parts.2, sym lines.4 ∙ parts.3)
 
-pub shown : (n : ℕ) (s s₁ : Session) (t : Turn) → Turned n s t s₁ → Shown s t s₁
-shown n s s₁ t (line, behind, e, inl (Store v, four, o, sp, lines, done, said, p)) = silent s s₁ t (p ∙ ap (option_map string_bytes) said)
-shown n s s₁ t (line, behind, e, inl (Levels v, four, o, sp, lines, done, said, p)) = silent s s₁ t (p ∙ ap (option_map string_bytes) said)
-shown n s s₁ t (line, behind, e, inl (Root, four, o, sp, lines, done, said, p)) =
+shown_by : (c : Command) (t : Turn) (line : List ℕ) (behind : List (List ℕ)) (four : SignatureLines) (first : ℕ) (o : Option (String Global)) (s s₁ : Session) → t.typed ≡ line ∷ behind →
+    Spelled line c → LinesAre four first behind → Executed s c s₁ → Answered row_hash s c four o → t.printed ≡ option_map string_bytes o → Shown s t s₁
+shown_by Root t line behind four first o s s₁ e sp lines done said p =
     quiet s s₁ t _ (p ∙ said_text o _ said) (refused_or (tree_refusal s.tree.signer.levels s.tree.bits) _ (number_other (node row_hash s.tree.bits (value_of s.tree.signer.seed) s.tree.signer.levels 0)))
-shown n s s₁ t (line, behind, e, inl (Sign x, four, o, sp, lines, done, said, p)) =
+shown_by (Sign x) t line behind four first o s s₁ e sp lines done said p =
     sign_shown s s₁ t (vec_items x) _ (behind, e ∙ ap (λ (cs : List ℕ). cs ∷ behind) sp) done.0 refl (p ∙ said_text o _ said) (λ k is. (promised row_hash s (Sign x) four o said k is).1)
-shown n s s₁ t (line, behind, e, inl (Look r x, four, o, sp, lines, done, said, p)) =
+shown_by (Look r x) t line behind four first o s s₁ e sp lines done said p =
     record {
-      key = λ cs f first.
-        let text : t.printed ≡ Some (look_answer row_hash s (value_of r) (vec_items x) said.0) = p ∙ said_text o _ said.2 in
-        let same : look_answer row_hash s (value_of r) (vec_items x) said.0 ≡ cs = cc in
-        absurd (looked_first s (value_of r) (vec_items x) said.0 (ap (λ (c : List ℕ). get_or c 0 0) same ∙ first));
+      key = λ cs f k.
+          let text : t.printed ≡ Some (look_answer row_hash s (value_of r) (vec_items x) said.0) = p ∙ said_text o _ said.2 in
+          let same : look_answer row_hash s (value_of r) (vec_items x) said.0 ≡ cs = cc in
+          absurd (looked_first s (value_of r) (vec_items x) said.0 (ap (λ (c : List ℕ). get_or c 0 0) same ∙ k));
       own = λ f.
-        let y = promised_strings s (Look r x) four o (promised row_hash s (Look r x) four o said) (text_said o _ (sym p ∙ f)) in
-        let typed = e ∙ ap (λ (cs : List ℕ). cs ∷ behind) (sp ∙ ap (λ (bs : List ℕ). codes "look " ++ (hex bs ++ (codes " " ++ vec_items x))) (bytes_back r)) in
-        (value_of r, vec_items x, behind, signature_of y.0, bounded r, typed, are_signature four (line_after n 1) behind (signature_of y.0) lines y.1, y.2);
+          let y = promised_strings s (Look r x) four o (promised row_hash s (Look r x) four o said) (text_said o _ (sym p ∙ f)) in
+          let typed = e ∙ ap (λ (cs : List ℕ). cs ∷ behind) (sp ∙ ap (λ (bs : List ℕ). codes "look " ++ (hex bs ++ (codes " " ++ vec_items x))) (bytes_back r)) in
+          (value_of r, vec_items x, behind, signature_of y.0, bounded r, typed, are_signature four first behind (signature_of y.0) lines y.1, y.2);
     }
-shown n s s₁ t (line, behind, e, inl (Power k, four, o, sp, lines, done, said, p)) = silent s s₁ t (p ∙ ap (option_map string_bytes) said)
-shown n s s₁ t (line, behind, e, inl (Slot, four, o, sp, lines, done, said, p)) = quiet s s₁ t _ (p ∙ said_text o _ said) (by_first _ (λ c. omega (arith, c)) (λ c. omega (arith, c)))
-shown n s s₁ t (line, behind, e, inl (State, four, o, sp, lines, done, said, p)) = quiet s s₁ t _ (p ∙ said_text o _ said) (by_first _ (λ c. omega (arith, c)) (λ c. omega (arith, c)))
+shown_by Slot t line behind four first o s s₁ e sp lines done said p = quiet s s₁ t _ (p ∙ said_text o _ said) (by_first _ (λ c. omega (arith, c)) (λ c. omega (arith, c)))
+shown_by State t line behind four first o s s₁ e sp lines done said p = quiet s s₁ t _ (p ∙ said_text o _ said) (by_first _ (λ c. omega (arith, c)) (λ c. omega (arith, c)))
+shown_by c t line behind four first o s s₁ e sp lines done said p = silent s s₁ t (p ∙ ap (option_map string_bytes) said)
+
+pub shown : (n : ℕ) (s s₁ : Session) (t : Turn) → Turned n s t s₁ → Shown s t s₁
+shown n s s₁ t (line, behind, e, inl (c, four, o, sp, lines, done, said, p)) = shown_by c t line behind four (line_after n 1) o s s₁ e sp lines done said p
 shown n s s₁ t (line, behind, e, inr (unread, p, done)) = quiet s s₁ t _ p (refusal_other (Line n))
 
 pub key_printed : (n k : ℕ) (s s₁ : Session) (t : Turn) → Turned n s t s₁ → PrintsKey t k → Signs s t s₁ k
 unfolding signed
 key_printed n k s s₁ t turn (line, rest, p, named) =
-    let ds = named.0 in
     let first = ap (λ (cs : List ℕ). get_or (cs ++ (10 ∷ rest)) 0 0) named.1 in
     let found = (shown n s s₁ t turn).key (line ++ (10 ∷ rest)) p first in
     let sign = found.1 in
