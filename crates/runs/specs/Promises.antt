@@ -65,7 +65,7 @@ AreSignature lines g =
 abbrev pub LookedOwn : List Turn → Type 0
 LookedOwn ts =
     (before after : List Turn) (t : Turn) → ts ≡ before ++ (t ∷ after) → t.printed ≡ Some (codes "accepted") →
-    (k : ℕ) × (n : ℕ) × (seed : ℕ) × (root : ℕ) × (text : List ℕ) × (behind : List (List ℕ)) × (g : Signature) × AskedWith before k n seed
+    (k : ℕ) × (n : ℕ) × (seed : ℕ) × (root : ℕ) × (text : List ℕ) × (behind : List (List ℕ)) × (g : Signature) × AskedWith before k n seed × (root < 2 ^ 256)
     × (t.typed ≡ (codes "look " ++ (hex (bytes_of root) ++ (codes " " ++ text))) ∷ behind) × AreSignature behind g
     × ((s l m : ℕ) → root ≡ node row_hash m s l 0 → Own row_hash s l m k (bits_of_text row_hash text n) g ⊎ LocatedStrings m s l (bits_of_text row_hash text n) g)
 
