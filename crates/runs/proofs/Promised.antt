@@ -69,16 +69,14 @@ keys_rise ts n n₁ s s₁ ran before between after t u j k e none pt pu =
 signatures_accepted : (ts : List Turn) (n n₁ : ℕ) (s s₁ : Session) → Fresh s → Ran n s ts n₁ s₁ → SignaturesAccepted ts
 signatures_accepted ts n n₁ s s₁ fresh ran before after t k e printed =
     let a = at_turn before after t n n₁ s s₁ (subst (λ (xs : List Turn). Ran n s xs n₁ s₁) e ran) in
-    let sign = key_printed a.0 k a.1 a.2 t a.4 printed in
     let tree = a.1.tree in
-    (tree.signer.levels, tree.bits, value_of tree.signer.seed, sign.text, asked_with before n a.0 s a.1 fresh a.3, sign.begins, sign.shown, sign.for_root)
+    (tree.signer.levels, tree.bits, value_of tree.signer.seed, asked_with before n a.0 s a.1 fresh a.3, (key_printed a.0 k a.1 a.2 t a.4 printed).own)
 
 looked_own : (ts : List Turn) (n n₁ : ℕ) (s s₁ : Session) → Fresh s → Ran n s ts n₁ s₁ → LookedOwn ts
 looked_own ts n n₁ s s₁ fresh ran before after t e printed =
     let a = at_turn before after t n n₁ s s₁ (subst (λ (xs : List Turn). Ran n s xs n₁ s₁) e ran) in
-    let (root, text, behind, g, small, typed, lines, own) = (shown a.0 a.1 a.2 t a.4).own printed in
     let tree = a.1.tree in
-    (tree.signer.levels, tree.bits, value_of tree.signer.seed, root, text, behind, g, asked_with before n a.0 s a.1 fresh a.3, typed, lines, own)
+    (tree.signer.levels, tree.bits, value_of tree.signer.seed, asked_with before n a.0 s a.1 fresh a.3, (shown a.0 a.1 a.2 t a.4).looks printed)
 
 pub promised : (ts : List Turn) (n n₁ : ℕ) (s s₁ : Session) → Fresh s → Ran n s ts n₁ s₁ → Promised ts
 promised ts n n₁ s s₁ fresh ran =

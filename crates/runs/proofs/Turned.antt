@@ -4,7 +4,7 @@ use Rattle.std.specs.Option.{option_map}
 use Rattle.std.specs.declared.alloc.Global.{Global}
 use Rattle.std.proofs.lemmas.Bool.{ltb-true}
 use Rattle.hash.specs.Hex.{hex}
-use Rattle.hash.specs.Value.{value_of, bytes_of}
+use Rattle.hash.specs.Value.{value_of}
 use Rattle.hash.proofs.Numbers.{bounded, bytes_back}
 use Rattle.sha256.specs.Rows.{row_hash}
 use Rattle.keys.specs.Refusals.{tree_refusal}
@@ -22,9 +22,7 @@ use Rattle.counter.specs.declared.answer.Done.{Done}
 use Rattle.counter.specs.declared.answer.Done.TheVariants.{Key, Cut, Empty, Refused}
 use Rattle.counter.proofs.Counts.{counts}
 use Rattle.signer.specs.Answers.{answer, stored, refusal}
-use Rattle.signer.specs.Promises.{Own}
 use Rattle.signer.proofs.Entries.{taken, key_answered}
-use Rattle.digests.specs.Digests.{LocatedStrings}
 use Rattle.texts.specs.Bits.{bits_of_text}
 use Rattle.texts.specs.Commands.{LevelsSpelled, StoreSpelled, Spelled}
 use Rattle.texts.specs.SignatureLines.{line_after, KeySpelled, LinesAre, LinesOf, signature_of}
@@ -38,7 +36,7 @@ use Rattle.sessions.specs.declared.session.Session.{Session}
 use Rattle.sessions.proofs.Promised.{promised, promised_strings}
 use Rattle.runs.specs.Turns.{Turn}
 use Rattle.runs.specs.Steps.{Turned}
-use Rattle.runs.specs.Promises.{Begins, IsStore, IsLevels, PrintsKey, AreSignature}
+use Rattle.runs.specs.Promises.{Begins, IsStore, IsLevels, PrintsKey, SignsText, AreSignature, LooksAtOwn}
 use Rattle.runs.proofs.Printed.{Other, by_first, refusal_other, refused_or, number_other, key_named}
 
 -- The count: no turn but a `store` line puts it back.
@@ -95,36 +93,25 @@ AcceptedFor s text k =
     accepted row_hash (node row_hash s.tree.bits (value_of s.tree.signer.seed) s.tree.signer.levels 0) s.tree.signer.levels (bits_of_text row_hash text s.tree.bits) (own_signature s text k) ≡ true
 
 pub record Signs (s : Session) (t : Turn) (s₁ : Session) (k : ℕ) : Type 0 where
-  pub text : List ℕ
-  pub begins : Begins t (codes "sign " ++ text)
-  pub shown : t.printed ≡ Some (signature_text (own_signature s text k))
-  pub for_root : AcceptedFor s text k
+  pub own : SignsText t s.tree.signer.levels s.tree.bits (value_of s.tree.signer.seed) k
   pub small : k < 2 ^ 64
   pub was_next : k ≡ next (vec_items s.store)
   pub now_next : next (vec_items s₁.store) ≡ k + 1
   pub stays_sound : sound (vec_items s₁.store) ≡ true
 
--- `accepted` is printed where a `look` finds the signer's own signature
-abbrev pub LooksOwn : Session → Turn → Type 0
-LooksOwn s t =
-    (root : ℕ) × (text : List ℕ) × (behind : List (List ℕ)) × (g : Signature) × (root < 2 ^ 256)
-    × (t.typed ≡ (codes "look " ++ (hex (bytes_of root) ++ (codes " " ++ text))) ∷ behind) × AreSignature behind g
-    × ((z l m : ℕ) → root ≡ node row_hash m z l 0 →
-    Own row_hash z l m s.tree.signer.levels (bits_of_text row_hash text s.tree.bits) g ⊎ LocatedStrings m z l (bits_of_text row_hash text s.tree.bits) g)
-
 -- what it tells that a text begins with a k, or is `accepted`
 pub record Shown (s : Session) (t : Turn) (s₁ : Session) : Type 0 where
-  pub key : (cs : List ℕ) → t.printed ≡ Some cs → get_or cs 0 0 ≡ 107 → (k : ℕ) × Signs s t s₁ k
-  pub own : t.printed ≡ Some (codes "accepted") → LooksOwn s t
+  pub signs : (cs : List ℕ) → t.printed ≡ Some cs → get_or cs 0 0 ≡ 107 → (k : ℕ) × Signs s t s₁ k
+  pub looks : t.printed ≡ Some (codes "accepted") → LooksAtOwn t s.tree.signer.levels s.tree.bits
 
 silent : (s s₁ : Session) (t : Turn) → t.printed ≡ None → Shown s t s₁
-silent s s₁ t p = record { key = λ cs e. absurd cc; own = λ e. absurd cc }
+silent s s₁ t p = record { signs = λ cs e. absurd cc; looks = λ e. absurd cc }
 
 quiet : (s s₁ : Session) (t : Turn) (cs : List ℕ) → t.printed ≡ Some cs → Other cs → Shown s t s₁
 quiet s s₁ t cs p other =
     record {
-      key = λ ds e k. let same : cs ≡ ds = cc in absurd (other.0 (ap (λ (x : List ℕ). get_or x 0 0) same ∙ k));
-      own = λ e. let same : cs ≡ codes "accepted" = cc in absurd (other.1 same);
+      signs = λ ds e k. let same : cs ≡ ds = cc in absurd (other.0 (ap (λ (x : List ℕ). get_or x 0 0) same ∙ k));
+      looks = λ e. let same : cs ≡ codes "accepted" = cc in absurd (other.1 same);
     }
 
 said_text : (o : Option (String Global)) (cs : List ℕ) → Says o cs → option_map string_bytes o ≡ Some cs
@@ -150,20 +137,17 @@ sign_shown s s₁ t x (Key k) begins held is p good =
     let few = few_keys l (levels_taken l passed.0) in
     let below = ltb-true _ _ at.1 in
     record {
-      key = λ cs e first. (
+      signs = λ cs e first. (
         k,
         record {
-          text = x;
-          begins = begins;
-          shown = text;
-          for_root = good k is;
+          own = (x, begins, text, good k is);
           small = omega (arith, few, below, at.2);
           was_next = at.2;
           now_next = ap next held ∙ (count.given k (sym is)).1;
           stays_sound = ap sound held ∙ (count.keeps passed.1).0;
         },
       );
-      own = λ e.
+      looks = λ e.
           let same : signature_text (own_signature s x k) ≡ codes "accepted" = cc in
           absurd (omega (arith, ap (λ (cs : List ℕ). get_or cs 0 0) same));
     }
@@ -191,11 +175,11 @@ shown_by (Sign x) t line behind four first o s s₁ e sp lines done said p =
     sign_shown s s₁ t (vec_items x) _ (behind, e ∙ ap (λ (cs : List ℕ). cs ∷ behind) sp) done.0 refl (p ∙ said_text o _ said) (λ k is. (promised row_hash s (Sign x) four o said k is).1)
 shown_by (Look r x) t line behind four first o s s₁ e sp lines done said p =
     record {
-      key = λ cs f k.
+      signs = λ cs f k.
           let text : t.printed ≡ Some (look_answer row_hash s (value_of r) (vec_items x) said.0) = p ∙ said_text o _ said.2 in
           let same : look_answer row_hash s (value_of r) (vec_items x) said.0 ≡ cs = cc in
           absurd (looked_first s (value_of r) (vec_items x) said.0 (ap (λ (c : List ℕ). get_or c 0 0) same ∙ k));
-      own = λ f.
+      looks = λ f.
           let y = promised_strings s (Look r x) four o (promised row_hash s (Look r x) four o said) (text_said o _ (sym p ∙ f)) in
           let typed = e ∙ ap (λ (cs : List ℕ). cs ∷ behind) (sp ∙ ap (λ (bs : List ℕ). codes "look " ++ (hex bs ++ (codes " " ++ vec_items x))) (bytes_back r)) in
           (value_of r, vec_items x, behind, signature_of y.0, bounded r, typed, are_signature four first behind (signature_of y.0) lines y.1, y.2);
@@ -212,7 +196,8 @@ pub key_printed : (n k : ℕ) (s s₁ : Session) (t : Turn) → Turned n s t s�
 unfolding signed
 key_printed n k s s₁ t turn (line, rest, p, named) =
     let first = ap (λ (cs : List ℕ). get_or (cs ++ (10 ∷ rest)) 0 0) named.1 in
-    let found = (shown n s s₁ t turn).key (line ++ (10 ∷ rest)) p first in
+    let found = (shown n s s₁ t turn).signs (line ++ (10 ∷ rest)) p first in
     let sign = found.1 in
-    let same : signature_text (own_signature s sign.text found.0) ≡ line ++ (10 ∷ rest) = let text = sign.shown in cc in
-    subst (Signs s t s₁) (key_named (own_signature s sign.text found.0) line rest k sign.small same named) sign
+    let text = sign.own.2 in
+    let same : signature_text (own_signature s sign.own.0 found.0) ≡ line ++ (10 ∷ rest) = cc in
+    subst (Signs s t s₁) (key_named (own_signature s sign.own.0 found.0) line rest k sign.small same named) sign

@@ -47,13 +47,17 @@ KeysRise ts =
     (before between after : List Turn) (t u : Turn) (j k : ℕ) → ts ≡ before ++ (t ∷ (between ++ (u ∷ after))) → All (λ x. IsStore x → ⊥) between →
     PrintsKey t j → PrintsKey u k → j < k
 
+-- a turn is a `sign` line, and prints the signature of its text by key k, of the signer with these levels, bits and seed; it is accepted for the text and that signer's root
+abbrev pub SignsText : Turn → (levels bits seed key : ℕ) → Type 0
+SignsText t l n seed k =
+    (text : List ℕ) × Begins t (codes "sign " ++ text) × (t.printed ≡ Some (signature_text (signed row_hash seed l k (bits_of_text row_hash text n))))
+    × (accepted row_hash (node row_hash n seed l 0) l (bits_of_text row_hash text n) (signed row_hash seed l k (bits_of_text row_hash text n)) ≡ true)
+
 -- each signature that is printed answers a `sign` line, is the signer's own by the key that it names, and is accepted for its text and the root of the levels, bits and seed that were asked with
 abbrev pub SignaturesAccepted : List Turn → Type 0
 SignaturesAccepted ts =
     (before after : List Turn) (t : Turn) (k : ℕ) → ts ≡ before ++ (t ∷ after) → PrintsKey t k →
-    (l : ℕ) × (n : ℕ) × (seed : ℕ) × (text : List ℕ) × AskedWith before l n seed × Begins t (codes "sign " ++ text)
-    × (t.printed ≡ Some (signature_text (signed row_hash seed l k (bits_of_text row_hash text n))))
-    × (accepted row_hash (node row_hash n seed l 0) l (bits_of_text row_hash text n) (signed row_hash seed l k (bits_of_text row_hash text n)) ≡ true)
+    (l : ℕ) × (n : ℕ) × (seed : ℕ) × AskedWith before l n seed × SignsText t l n seed k
 
 -- four lines are those of a signature
 abbrev pub AreSignature : List (List ℕ) → Signature → Type 0
@@ -61,13 +65,18 @@ AreSignature lines g =
     KeySpelled (line_at lines 0) g.key × (line_at lines 1 ≡ numbers_line (codes "parts") g.parts) × (line_at lines 2 ≡ numbers_line (codes "others") g.others)
     × (line_at lines 3 ≡ numbers_line (codes "path") g.path)
 
--- where `accepted` is printed, a `look` was typed with a root and a text, and behind it the lines of a signature that is, of every signer whose root this is, the signer's own for just these bits; or two byte strings differ and have the same SHA-256, one hashed in looking at it and one in the signer's own tree
+-- a turn is a `look` line with a root and a text, and behind it the lines of a signature that is, of every signer whose root this is, the signer's own for just these bits; or two byte strings differ and have the same SHA-256, one hashed in looking at it and one in the signer's own tree
+abbrev pub LooksAtOwn : Turn → (levels bits : ℕ) → Type 0
+LooksAtOwn t k n =
+    (root : ℕ) × (text : List ℕ) × (behind : List (List ℕ)) × (g : Signature) × (root < 2 ^ 256)
+    × (t.typed ≡ (codes "look " ++ (hex (bytes_of root) ++ (codes " " ++ text))) ∷ behind) × AreSignature behind g
+    × ((s l m : ℕ) → root ≡ node row_hash m s l 0 → Own row_hash s l m k (bits_of_text row_hash text n) g ⊎ LocatedStrings m s l (bits_of_text row_hash text n) g)
+
+-- where `accepted` is printed, it answers such a turn, with the levels and bits that were asked with
 abbrev pub LookedOwn : List Turn → Type 0
 LookedOwn ts =
     (before after : List Turn) (t : Turn) → ts ≡ before ++ (t ∷ after) → t.printed ≡ Some (codes "accepted") →
-    (k : ℕ) × (n : ℕ) × (seed : ℕ) × (root : ℕ) × (text : List ℕ) × (behind : List (List ℕ)) × (g : Signature) × AskedWith before k n seed
-    × (t.typed ≡ (codes "look " ++ (hex (bytes_of root) ++ (codes " " ++ text))) ∷ behind) × AreSignature behind g
-    × ((s l m : ℕ) → root ≡ node row_hash m s l 0 → Own row_hash s l m k (bits_of_text row_hash text n) g ⊎ LocatedStrings m s l (bits_of_text row_hash text n) g)
+    (k : ℕ) × (n : ℕ) × (seed : ℕ) × AskedWith before k n seed × LooksAtOwn t k n
 
 -- all of it
 pub record Promised (ts : List Turn) : Type 0 where
