@@ -1,5 +1,5 @@
 -- Words: where one ends, that a text is cut into them in one way only, and that numbers are written as words.
-use Rattle.std.proofs.Common.{◌≡◌, ℕ, zero, suc, ◌/◌, ◌%◌, ◌<◌, true, List, [], ◌∷◌, ◌++◌, length, get_or, take, drop, Some, sym, refl, ap, ◌∙◌, subst, arith}
+use Rattle.std.proofs.Common.{◌≡◌, ℕ, zero, suc, ◌/◌, ◌%◌, ◌<◌, true, List, [], ◌∷◌, ◌++◌, length, get_or, take, drop, Some, sym, refl, ap, ◌∙◌, subst, inl, inr, arith}
 use Rattle.std.specs.List.{flat_map}
 use Rattle.std.specs.Str.Iter.{LacksByte}
 use Rattle.std.proofs.lemmas.List.{drop_at, get_or_append_left, length-append, take_at}
@@ -8,6 +8,7 @@ use Rattle.std.proofs.lemmas.Bool.{and_parts, leb-true}
 use Rattle.std.proofs.lemmas.Bool.Decides.{nat_tests}
 use Rattle.reading.specs.Spaced.{Stops, FirstWord, SpacedWords}
 use Rattle.hash.specs.Hex.{hex_digit, hex}
+use Rattle.hash.specs.Members.{In}
 use Rattle.reading.specs.Spelling.{WordEnd, is_digit, all_digits, digits_value, decimal_of}
 
 -- no digit is a character that comes before the digits, as a space and a newline do
@@ -69,6 +70,17 @@ same_word v w p q a b s t e =
 words_stop : (ws : List (List ℕ)) → Stops (flat_map (λ w. 32 ∷ w) ws)
 words_stop [] = λ h. absurd (omega arith)
 words_stop (w ∷ ws) = λ h. refl
+
+-- a text is cut into words in one way only
+pub same_words : (ws us : List (List ℕ)) → ((w : List ℕ) → In w ws → LacksByte 32 w) → ((w : List ℕ) → In w us → LacksByte 32 w) → flat_map (λ w. 32 ∷ w) ws ≡ flat_map (λ w. 32 ∷ w) us → ws ≡ us
+same_words [] [] a b e = refl
+same_words [] (u ∷ us) a b e = absurd (omega (arith, ap length e))
+same_words (w ∷ ws) [] a b e = absurd (omega (arith, ap length e))
+same_words (w ∷ ws) (u ∷ us) a b e =
+    let same = same_word w u _ _ (a w (inl refl)) (b u (inl refl)) (words_stop ws) (words_stop us) (ap (drop 1) e) in
+    let first = same.0 in
+    let rest = same_words ws us (λ v i. a v (inr i)) (λ v i. b v (inr i)) same.1 in
+    cc
 
 module _ {V : Type 0} (spells : List ℕ → V → Type 0) where
   -- a text that is words and not empty begins with one

@@ -1,7 +1,8 @@
 -- What is printed is read back: decimals, and numbers in sixteens.
-use Rattle.std.proofs.Common.{◌≡◌, ℕ, suc, ◌-◌, ◌*◌, ◌/◌, ◌%◌, ◌^◌, ◌<◌, ◌≤◌, true, List, [], ◌∷◌, map, length, get_or, take, drop, Some, decimal, sym, refl, ap, ◌∙◌, inl, inr, arith, rules}
-use Rattle.std.specs.List.{flat_map}
+use Rattle.std.proofs.Common.{◌≡◌, ℕ, suc, ◌-◌, ◌*◌, ◌/◌, ◌%◌, ◌^◌, ◌<◌, ◌≤◌, true, List, [], ◌∷◌, ◌++◌, map, length, get_or, take, drop, Some, decimal, sym, refl, ap, ◌∙◌, subst, inl, inr, arith, rules}
+use Rattle.std.specs.List.{flat_map, AllZip}
 use Rattle.std.specs.Int.Digits.{number_from_digits_after}
+use Rattle.std.specs.Str.Iter.{LacksByte}
 use Rattle.std.proofs.lemmas.Bool.{and_from, and_parts, cond-true, lt-ltb, ltb-true}
 use Rattle.std.proofs.lemmas.Bool.Decides.{nat_tests}
 use Rattle.std.proofs.lemmas.Fmt.{decimal-digits_value, decimal_nonempty, digits_decimal, digits_value-decimal}
@@ -13,7 +14,9 @@ use Rattle.hash.specs.Members.{In}
 use Rattle.hash.specs.Value.{worth, bytes_of}
 use Rattle.hash.proofs.Numbers.{length-bytes, with_bytes, worth-bytes}
 use Rattle.signatures.specs.Lines.{numbers_line}
+use Rattle.reading.specs.Spaced.{SpacedWords}
 use Rattle.reading.specs.Spelling.{all_digits, digits_value, decimal_of, Plain}
+use Rattle.reading.proofs.Cuts.{decimal_whole, same_words}
 use Rattle.reading.proofs.Hexes.{length-hex}
 
 own : IsNumeralModel (λ ds. all_digits ds ≡ true) digits_value
@@ -35,6 +38,58 @@ decimal_printed limit ds k low plain e =
     let tests = and_parts _ _ parts.0 in
     let rest = and_parts (all_digits ds) _ tests.1 in
     sym (decimal-digits_value own ds rest.0 (ltb-true _ _ tests.0) plain (omega (arith, ltb-true _ _ rest.1, low))) ∙ ap decimal parts.1
+
+-- numbers in decimal, each after one space
+module _ (limit : ℕ) (low : limit ≤ 2 ^ 64) where
+  -- those that are printed spell their numbers
+  pub counts_read : (vs : List ℕ) → ((v : ℕ) → In v vs → v < limit) → SpacedWords (λ w v. decimal_of limit w ≡ Some v) (flat_map (λ v. 32 ∷ decimal v) vs) vs
+  counts_read [] b = ([], refl, tt)
+  counts_read (v ∷ vs) b =
+      let small = b v (inl refl) in
+      let e = decimal_read limit v small (omega (arith, small, low)) in
+      let r = counts_read vs (λ x i. b x (inr i)) in
+      (decimal v ∷ r.0, ap (λ (t : List ℕ). 32 ∷ (decimal v ++ t)) r.1, ((decimal_whole limit (decimal v) v e, e), r.2))
+
+  words_whole : (ws : List (List ℕ)) (vs : List ℕ) → AllZip (λ w v. LacksByte 32 w × (decimal_of limit w ≡ Some v)) ws vs → (w : List ℕ) → In w ws → LacksByte 32 w
+  words_whole [] vs m w i = absurd i
+  words_whole (x ∷ ws) [] m w i = absurd m
+  words_whole (x ∷ ws) (v ∷ vs) m w (inl e) = subst (λ (t : List ℕ). LacksByte 32 t) (sym e) m.0.0
+  words_whole (x ∷ ws) (v ∷ vs) m w (inr i) = words_whole ws vs m.1 w i
+
+  words_told : (ws : List (List ℕ)) (us vs : List ℕ) → AllZip (λ w v. LacksByte 32 w × (decimal_of limit w ≡ Some v)) ws us → AllZip (λ w v. LacksByte 32 w × (decimal_of limit w ≡ Some v)) ws vs → us ≡ vs
+  words_told [] [] [] m n = refl
+  words_told [] (u ∷ us) vs m n = absurd m
+  words_told [] [] (v ∷ vs) m n = absurd n
+  words_told (w ∷ ws) [] vs m n = absurd m
+  words_told (w ∷ ws) (u ∷ us) [] m n = absurd n
+  words_told (w ∷ ws) (u ∷ us) (v ∷ vs) m n =
+      let a = m.0.1 in
+      let b = n.0.1 in
+      let rest = words_told ws us vs m.1 n.1 in
+      cc
+
+  -- a text spells one row of numbers only
+  pub counts_told : (cs us vs : List ℕ) → SpacedWords (λ w v. decimal_of limit w ≡ Some v) cs us → SpacedWords (λ w v. decimal_of limit w ≡ Some v) cs vs → us ≡ vs
+  counts_told cs us vs s r =
+      let same = same_words s.0 r.0 (words_whole s.0 us s.2) (words_whole r.0 vs r.2) (sym s.1 ∙ r.1) in
+      words_told r.0 us vs (subst (λ (ws : List (List ℕ)). AllZip (λ w v. LacksByte 32 w × (decimal_of limit w ≡ Some v)) ws us) same s.2) r.2
+
+  -- and those with no 0 in front are what is printed of their numbers
+  words_printed : (ws : List (List ℕ)) (vs : List ℕ) → AllZip (λ w v. LacksByte 32 w × (decimal_of limit w ≡ Some v)) ws vs → ((w : List ℕ) → In w ws → Plain w) →
+      flat_map (λ w. 32 ∷ w) ws ≡ flat_map (λ v. 32 ∷ decimal v) vs
+  words_printed [] [] m p = refl
+  words_printed [] (v ∷ vs) m p = absurd m
+  words_printed (w ∷ ws) [] m p = absurd m
+  words_printed (w ∷ ws) (v ∷ vs) m p =
+      let first = decimal_printed limit w v low (p w (inl refl)) m.0.1 in
+      let rest = words_printed ws vs m.1 (λ x i. p x (inr i)) in
+      cc
+
+  pub counts_printed : (cs vs : List ℕ) (ws : List (List ℕ)) → SpacedWords (λ w v. decimal_of limit w ≡ Some v) cs vs → cs ≡ flat_map (λ w. 32 ∷ w) ws → ((w : List ℕ) → In w ws → LacksByte 32 w × Plain w) →
+      cs ≡ flat_map (λ v. 32 ∷ decimal v) vs
+  counts_printed cs vs ws s e p =
+      let same = same_words s.0 ws (words_whole s.0 vs s.2) (λ w i. (p w i).0) (sym s.1 ∙ e) in
+      s.1 ∙ words_printed s.0 vs s.2 (λ w i. (p w (subst (λ (us : List (List ℕ)). In w us) same i)).1)
 
 -- bytes in sixteens are those of these bytes alone
 digit_told : (a b : ℕ) → a < 16 → b < 16 → hex_digit a ≡ hex_digit b → a ≡ b

@@ -1,5 +1,5 @@
 -- Words, each after one space. Assumes nothing: these are definitions.
-use Rattle.std.specs.Prelude.{◌≡◌, ℕ, ◌<◌, List, ◌∷◌, ◌++◌, length, slice_index}
+use Rattle.std.specs.Prelude.{◌≡◌, ℕ, ◌<◌, List, ◌∷◌, ◌++◌, length, decimal, slice_index}
 use Rattle.std.specs.List.{flat_map, AllZip}
 use Rattle.std.specs.Str.Iter.{LacksByte}
 
@@ -17,3 +17,7 @@ pub record FirstWord {V : Type 0} (spells : List ℕ → V → Type 0) (cs w : L
 -- a text is words with no space in them, each after one space, and they spell these values
 abbrev pub SpacedWords : {V : Type 0} → (spells : List ℕ → V → Type 0) → List ℕ → List V → Type 0
 SpacedWords spells cs vs = (ws : List (List ℕ)) × (cs ≡ flat_map (λ w. 32 ∷ w) ws) × AllZip (λ w v. LacksByte 32 w × spells w v) ws vs
+
+-- a word, and each number in decimal after one space
+abbrev pub counts_line : List ℕ → List ℕ → List ℕ
+counts_line word vs = word ++ flat_map (λ v. 32 ∷ decimal v) vs

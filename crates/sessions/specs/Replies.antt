@@ -1,6 +1,5 @@
 -- What is printed. Assumes nothing: these are definitions.
-use Rattle.std.specs.Prelude.{ℕ, Bool, true, false, List, ◌∷◌, ◌++◌, Ok, Err, codes, decimal, Result}
-use Rattle.std.specs.List.{flat_map}
+use Rattle.std.specs.Prelude.{ℕ, Bool, true, false, List, Ok, Err, codes, Result}
 use Rattle.hash.specs.Hex.{hex}
 use Rattle.hash.specs.Value.{bytes_of, value_of}
 use Rattle.hash.specs.declared.number.Number.{Number}
@@ -8,6 +7,7 @@ use Rattle.keys.specs.Refusals.{refusal_spelled}
 use Rattle.keys.specs.declared.refusal.Refusal.{Refusal}
 use Rattle.signatures.specs.Lines.{signature_text}
 use Rattle.signatures.specs.Signatures.{Signature}
+pub use Rattle.reading.specs.Spaced.{counts_line}
 use Rattle.counter.specs.declared.answer.Done.{Done}
 use Rattle.counter.specs.declared.answer.Done.TheVariants.{Key, Cut, Empty, Refused}
 
@@ -27,7 +27,3 @@ sign_spelled (Refused r) g = refusal_spelled r
 abbrev pub look_spelled : Bool → List ℕ
 look_spelled true = codes "accepted"
 look_spelled false = codes "no"
-
--- the answers to `state` and `slot`: a word, and each number in decimal after one space
-abbrev pub counts_line : List ℕ → List ℕ → List ℕ
-counts_line word vs = word ++ flat_map (λ v. 32 ∷ decimal v) vs

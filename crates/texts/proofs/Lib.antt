@@ -3,3 +3,4 @@ mod Commanded
 mod Cuts
 pub mod Looks
 pub mod ReadBack
+mod Stores

@@ -2,9 +2,11 @@
 use Rattle.std.specs.Prelude.{◌≡◌, ℕ, ◌^◌, Bool, eqb, List, ◌∷◌, ◌++◌, map, Some, vec_items, codes}
 use Rattle.tree.specs.declared.own.Tree.{Tree}
 use Rattle.std.specs.List.{flat_map, starts_with}
+use Rattle.std.specs.Str.Iter.{LacksByte}
+use Rattle.hash.specs.Members.{In}
 use Rattle.hash.specs.Value.{value_of}
 use Rattle.hash.specs.Hex.{hex}
-use Rattle.reading.specs.Spelling.{decimal_of}
+use Rattle.reading.specs.Spelling.{decimal_of, Plain}
 use Rattle.texts.specs.declared.command.Command.{Command}
 use Rattle.texts.specs.declared.command.Command.TheVariants.{Store, Levels, Root, Sign, Look, Power, Slot, State}
 
@@ -36,3 +38,12 @@ Spelled cs (Look r t) = cs ≡ codes "look " ++ (hex r.bytes ++ (codes " " ++ ve
 Spelled cs (Power k) = (ds : List ℕ) × (cs ≡ codes "power " ++ ds) × (decimal_of (2 ^ 64) ds ≡ Some k)
 Spelled cs Slot = cs ≡ codes "slot"
 Spelled cs State = cs ≡ codes "state"
+
+-- a command is the store of these numbers
+abbrev pub IsStore : List ℕ → Command → Type 0
+IsStore vs (Store v) = vec_items v ≡ vs
+IsStore vs c = ⊥
+
+-- a line is `store` and words with no 0 in front, but for 0 itself, each after one space
+abbrev pub PlainStore : List ℕ → Type 0
+PlainStore cs = (ws : List (List ℕ)) × (cs ≡ codes "store" ++ flat_map (λ w. 32 ∷ w) ws) × ((w : List ℕ) → In w ws → LacksByte 32 w × Plain w)

@@ -1,9 +1,11 @@
 // The lines that ask for something.
-ghost use Rattle.std.specs.Prelude.{◌≡◌, ℕ, List, ◌++◌, IfOk, codes, MatchOption, slice_index};
+ghost use Rattle.std.specs.Prelude.{◌≡◌, ℕ, ◌^◌, ◌<◌, List, ◌++◌, IfOk, IfSome, IsSomeAnd, codes, MatchOption, slice_index};
 ghost use Rattle.hash.specs.declared.number.Number.{Number};
 ghost use Rattle.tree.specs.declared.own.Tree.{Tree};
-ghost use Rattle.texts.specs.Commands.{DecimalBefore, LevelsSpelled, Spelled, takes_four};
+ghost use Rattle.texts.specs.Commands.{DecimalBefore, LevelsSpelled, Spelled, takes_four, IsStore, PlainStore};
 ghost use Rattle.reading.specs.Reading.{Reads};
+ghost use Rattle.reading.specs.Spaced.{counts_line};
+ghost use Rattle.hash.specs.Members.{In};
 ghost use Rattle.hash.specs.Hex.{hex};
 
 use hash::Number;
@@ -63,9 +65,11 @@ fn read_look(heap: Global, text: &[u8]) -> Result<Option<Command>, AllocError>
     Ok(Some(Command::Look(root, Vec::from_slice(heap, text)?)))
 }
 
-// The command that a line is, if it is one.
+// The command that a line is, if it is one. A store that is printed is read back, and what is read is printed as it was but for zeros in front.
 pub fn read_command(heap: Global, line: &[u8]) -> Result<Option<Command>, AllocError>
-    ensures { IfOk result (Reads (Spelled line.now)) }
+    ensures read { IfOk result (Reads (Spelled line.now)) }
+    ensures back { (vs : List ℕ) → ((v : ℕ) → In v vs → v < 2 ^ 32) → line.now ≡ counts_line (codes "store") vs → IfOk result (λ o. IsSomeAnd o (IsStore vs)) }
+    ensures again { IfOk result (λ o. IfSome o (λ c. (vs : List ℕ) → IsStore vs c → PlainStore line.now → line.now ≡ counts_line (codes "store") vs)) }
 {
     if let Some(text) = after(line, b"sign ") {
         return Ok(Some(Command::Sign(Vec::from_slice(heap, text)?)));

@@ -87,9 +87,9 @@ pub struct SignatureLines<'a> {
     pub path: &'a [u8],
 }
 
-impl SignatureLines<'_> {
+impl<'a> SignatureLines<'a> {
     // The first four of some lines, the first of which has that number; one that is not there is empty.
-    pub fn new<'a>(first: u64, lines: &'a [Vec<u8>]) -> SignatureLines<'a>
+    pub fn new(first: u64, lines: &'a [Vec<u8>]) -> SignatureLines<'a>
         ensures { LinesAre result first (map vec_items lines.now) }
     {
         SignatureLines {
