@@ -123,22 +123,22 @@ def office_day():
     first, second = tree.lines(0, mill), tree.lines(1, field)
     ask = "look %s " % tree.printed_root()
     return (
-        (["sign " + mill], "2 0", "Too early: no store was told, so it has no numbers. Refused: the number of the refusal, and its place."),
+        (["sign " + mill], "2 0", "Refused, by the refusal's number and its place: no store was given yet, so it has no numbers."),
         (["store 0 3 0 3"], None, "A new store: both slots have the count 0 and its check 3."),
-        (["root"], "4 0", "Too early, too: no tree was told, so there are no bits."),
-        ([tree.line], None, "The office's tree: three levels, so 8 one-time keys, each for four bits, all from the seed 17."),
-        (["root"], tree.printed_root(), "The root. The office gives it to everybody."),
-        (["sign " + mill], "\n".join(first), "Key 0 is reserved in the store and signs the first four bits of the text's hash: four lines. Of each bit `parts` has the secret number, `others` what is shown of the other one; `path` leads up to the root."),
-        (["state"], "store 1 10 0 3", "The store: the first slot has the count 1 and its check, so key 1 is next."),
-        (["power 1"], None, "At the next `sign` power fails after one write."),
-        (["sign " + field], "cut", "It failed, and no signature was given."),
-        (["state"], "store 1 10 2 3", "The count 2 was written, and its check was not: the second slot is not right."),
-        (["slot"], "slot 1 10", "The first slot still counts: key 1 is next, as before."),
-        (["sign " + field], "\n".join(second), "Power lasts again, and key 1 signs."),
-        (["state"], "store 1 10 2 17", "Both slots are right, and key 2 is next."),
-        ([ask + mill] + first, "accepted", "Anybody who has the root looks at the first deed: the text, and the four lines of key 0."),
-        ([ask + field] + second, "accepted", "And at the second, with the four lines of key 1."),
-        ([ask + field + " and Carl"] + second, "no", "These four lines do not sign another text."),
+        (["root"], "4 0", "Refused, too: nothing was said of levels and bits yet, so there are no bits."),
+        ([tree.line], None, "The office's tree: three levels, so eight one-time keys, each for four bits, all from the seed 17."),
+        (["root"], tree.printed_root(), "The root, which everybody gets."),
+        (["sign " + mill], "\n".join(first), "Key 0 is reserved in the store, and signs the first four bits of the text's hash. For each bit `parts` has the secret number, and `others` what is shown of the other one; `path` is the authentication path."),
+        (["state"], "store 1 10 0 3", "The first slot has the count 1 and its check, so key 1 is next."),
+        (["power 1"], None, "At the next `sign` line power lasts for one write."),
+        (["sign " + field], "cut", "It failed between the count and its check, and no signature was given."),
+        (["state"], "store 1 10 2 3", "The second slot has the count 2, and not its check."),
+        (["slot"], "slot 1 10", "So the first slot counts: key 1 is next, as before."),
+        (["sign " + field], "\n".join(second), "Power lasts, and key 1 signs."),
+        (["state"], "store 1 10 2 17", "Both slots are right. The higher count is that of the next key, 2."),
+        ([ask + mill] + first, "accepted", "Who has the root looks at the first deed, with the four lines of key 0."),
+        ([ask + field] + second, "accepted", "The second, with those of key 1."),
+        ([ask + field + " and Carl"] + second, "no", "The same four lines do not sign another text."),
     )
 
 
@@ -582,7 +582,7 @@ PARTS = (
 
 
 README = HERE + "/../README.md"
-FROM, TO = "<!-- the day, as tests/examples.py writes it -->\n", "\n<!-- the end of the day -->"
+FROM, TO = "<!-- the day, as tests/examples.py writes it -->\n\n", "\n\n<!-- the end of the day -->"
 
 
 def with_day(page):
