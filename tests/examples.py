@@ -437,7 +437,7 @@ def unreadable(run):
     run.refuse("store ", "store 4294967296 3 0 3", "store 0 3 0 4294967296", "store 1,10 0 3", "store 0 3 0 a")
     for spelled in ("18446744073709551616 bits 4 seed 5", "1 bits 18446744073709551616 seed 5", "1 bits 4 seed %d" % 2**256):
         run.refuse("levels " + spelled)
-    for spelled in ("1 bits 4", "1 bits 4 seed", "1 bits 4 seed ", "1 bits seed 5", " bits 4 seed 5", "1 Bits 4 seed 5", "1 seed 5 bits 4", "1 bits 4 seed 5 5"):
+    for spelled in ("1 bits 4", "1 bits 4 seed", "1 bits 4 seed ", "1 bits seed 5", " bits 4 seed 5", "1 Bits 4 seed 5", "1 seed 5 bits 4", "1 bits 4 seed 5 5", "1 bits 4 seed +5", "1 bits +4 seed 5"):
         run.refuse("levels " + spelled)
     for spelled in ("18446744073709551616", "", "-1", "1 2", "x"):
         run.refuse("power " + spelled)
@@ -476,7 +476,7 @@ def misspelled_lines(right):
     root = EIGHT.printed_root()
     for spelled in (root, root + "\t" + DEED, " " + root + " " + DEED, root[1:] + " " + DEED, root.upper() + " " + DEED, raised(root) + " " + DEED):
         yield 0, "look " + spelled
-    for spelled in ("key", "key +5", "key 5 ", " key 5", "key 5\r", "Key 5", "key 5a", "key 18446744073709551616"):
+    for spelled in ("key", "key x", "key +5", "key 5 ", " key 5", "key 5\r", "Key 5", "key 5a", "key 18446744073709551616"):
         yield 1, spelled
     # Each of these at one of the three lines of numbers, but for the digits in upper case alone, at each.
     for k, form in enumerate(("%s  %s", " %s %s", "%s %s ", "%s\t%s", "%s %s\r", "%s%s", "%ss %s", "%s %s 5", "%s 0%s")):

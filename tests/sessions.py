@@ -20,7 +20,9 @@ UNREADABLE = [line.encode() for line in UNREADABLE.split("|")] + [b"\xff", b"roo
 
 
 def program(data):
-    return subprocess.run([PROGRAM], input=data, capture_output=True, check=True).stdout
+    """What the program prints for this input, and its status."""
+    ran = subprocess.run([PROGRAM], input=data, stdout=subprocess.PIPE)
+    return ran.stdout.decode(), ran.returncode
 
 
 def store(r):
@@ -205,10 +207,10 @@ def megabyte(r, session):
 
 
 def compared(seed, data):
-    """The lines that the program prints, which are the model's."""
-    ours, theirs = program(data).decode(), "".join(answer + "\n" for answer in model.answers(data))
-    if ours != theirs:
-        sys.exit("session %d differs:\n%s\nprogram:\n%s\nmodel:\n%s" % (seed, shown(data.decode(errors="backslashreplace")), shown(ours), shown(theirs)))
+    """The lines that the program prints, which are the model's. It ends with status 0."""
+    (ours, status), theirs = program(data), "".join(answer + "\n" for answer in model.answers(data))
+    if ours != theirs or status != 0:
+        sys.exit("session %d differs:\n%s\nprogram, status %d:\n%s\nmodel:\n%s" % (seed, shown(data.decode(errors="backslashreplace")), status, shown(ours), shown(theirs)))
     return ours.split("\n")
 
 
