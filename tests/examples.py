@@ -123,22 +123,22 @@ def office_day():
     first, second = tree.lines(0, mill), tree.lines(1, field)
     ask = "look %s " % tree.printed_root()
     return (
-        (["sign " + mill], "2 0", "Too early: no store was told, so it has no numbers. Refused: the number of the refusal, and its place."),
+        (["sign " + mill], "2 0", "Refused, by the refusal's number and its place: no store was given yet, so it has no numbers."),
         (["store 0 3 0 3"], None, "A new store: both slots have the count 0 and its check 3."),
-        (["root"], "4 0", "Too early, too: no tree was told, so there are no bits."),
-        ([tree.line], None, "The office's tree: three levels, so 8 one-time keys, each for four bits, all from the seed 17."),
-        (["root"], tree.printed_root(), "The root. The office gives it to everybody."),
-        (["sign " + mill], "\n".join(first), "Key 0 is reserved in the store and signs the first four bits of the text's hash: four lines. Of each bit `parts` has the secret number, `others` what is shown of the other one; `path` leads up to the root."),
-        (["state"], "store 1 10 0 3", "The store: the first slot has the count 1 and its check, so key 1 is next."),
-        (["power 1"], None, "At the next `sign` power fails after one write."),
-        (["sign " + field], "cut", "It failed, and no signature was given."),
-        (["state"], "store 1 10 2 3", "The count 2 was written, and its check was not: the second slot is not right."),
-        (["slot"], "slot 1 10", "The first slot still counts: key 1 is next, as before."),
-        (["sign " + field], "\n".join(second), "Power lasts again, and key 1 signs."),
-        (["state"], "store 1 10 2 17", "Both slots are right, and key 2 is next."),
-        ([ask + mill] + first, "accepted", "Anybody who has the root looks at the first deed: the text, and the four lines of key 0."),
-        ([ask + field] + second, "accepted", "And at the second, with the four lines of key 1."),
-        ([ask + field + " and Carl"] + second, "no", "These four lines do not sign another text."),
+        (["root"], "4 0", "Refused, too: nothing was said of levels and bits yet, so there are no bits."),
+        ([tree.line], None, "The office's tree: three levels, so eight one-time keys, each for four bits, all from the seed 17."),
+        (["root"], tree.printed_root(), "The root, which everybody gets."),
+        (["sign " + mill], "\n".join(first), "Key 0 is reserved in the store, and signs the first four bits of the text's hash. For each bit `parts` has the secret number, and `others` what is shown of the other one; `path` is the authentication path."),
+        (["state"], "store 1 10 0 3", "The first slot has the count 1 and its check, so key 1 is next."),
+        (["power 1"], None, "At the next `sign` line power lasts for one write."),
+        (["sign " + field], "cut", "It failed between the count and its check, and no signature was given."),
+        (["state"], "store 1 10 2 3", "The second slot has the count 2, and not its check."),
+        (["slot"], "slot 1 10", "So the first slot counts: key 1 is next, as before."),
+        (["sign " + field], "\n".join(second), "Power lasts, and key 1 signs."),
+        (["state"], "store 1 10 2 17", "Both slots are right. The higher count is that of the next key, 2."),
+        ([ask + mill] + first, "accepted", "Who has the root looks at the first deed, with the four lines of key 0."),
+        ([ask + field] + second, "accepted", "The second, with those of key 1."),
+        ([ask + field + " and Carl"] + second, "no", "The same four lines do not sign another text."),
     )
 
 
@@ -437,7 +437,7 @@ def unreadable(run):
     run.refuse("store ", "store 4294967296 3 0 3", "store 0 3 0 4294967296", "store 1,10 0 3", "store 0 3 0 a")
     for spelled in ("18446744073709551616 bits 4 seed 5", "1 bits 18446744073709551616 seed 5", "1 bits 4 seed %d" % 2**256):
         run.refuse("levels " + spelled)
-    for spelled in ("1 bits 4", "1 bits 4 seed", "1 bits 4 seed ", "1 bits seed 5", " bits 4 seed 5", "1 Bits 4 seed 5", "1 seed 5 bits 4", "1 bits 4 seed 5 5"):
+    for spelled in ("1 bits 4", "1 bits 4 seed", "1 bits 4 seed ", "1 bits seed 5", " bits 4 seed 5", "1 Bits 4 seed 5", "1 seed 5 bits 4", "1 bits 4 seed 5 5", "1 bits 4 seed +5", "1 bits +4 seed 5"):
         run.refuse("levels " + spelled)
     for spelled in ("18446744073709551616", "", "-1", "1 2", "x"):
         run.refuse("power " + spelled)
@@ -476,7 +476,7 @@ def misspelled_lines(right):
     root = EIGHT.printed_root()
     for spelled in (root, root + "\t" + DEED, " " + root + " " + DEED, root[1:] + " " + DEED, root.upper() + " " + DEED, raised(root) + " " + DEED):
         yield 0, "look " + spelled
-    for spelled in ("key", "key +5", "key 5 ", " key 5", "key 5\r", "Key 5", "key 5a", "key 18446744073709551616"):
+    for spelled in ("key", "key x", "key +5", "key 5 ", " key 5", "key 5\r", "Key 5", "key 5a", "key 18446744073709551616"):
         yield 1, spelled
     # Each of these at one of the three lines of numbers, but for the digits in upper case alone, at each.
     for k, form in enumerate(("%s  %s", " %s %s", "%s %s ", "%s\t%s", "%s %s\r", "%s%s", "%ss %s", "%s %s 5", "%s 0%s")):
@@ -582,7 +582,7 @@ PARTS = (
 
 
 README = HERE + "/../README.md"
-FROM, TO = "<!-- the day, as tests/examples.py writes it -->\n", "\n<!-- the end of the day -->"
+FROM, TO = "<!-- the day, as tests/examples.py writes it -->\n\n", "\n\n<!-- the end of the day -->"
 
 
 def with_day(page):

@@ -15,12 +15,14 @@ HERE = sys.path[0]
 PROGRAM = os.environ.get("KACHUMPE", HERE + "/../crates/kachumpe/out/kachumpe")
 MEGABYTE = 2**20
 TEXTS = [b"a deed", b"another deed", b"", b" two  spaces ", "naïve".encode(), b"na\xefve", b"\xff\xfe\x00", b"\ta deed\r", b"x" * 300]
-UNREADABLE = """|sign|signs x|sign\tx| root|root |root\r|store  1|store |store +1|store 4294967296 3 0 3|levels 0 bits 4|levels 0 bits 4 seed +1|sIgn x|power|power  2|state |states|slot 1| slot|key 0|parts|looks|look\t| look x|Look|loo"""
+UNREADABLE = """|sign|sign|signs x|sign\tx| root|root |root\r|store  1|store |store +1|store 4294967296 3 0 3|levels 0 bits 4|levels 0 bits 4 seed +1|sIgn x|power|power  2|state |states|slot 1| slot|key 0|parts|looks|look\t| look x|Look|loo"""
 UNREADABLE = [line.encode() for line in UNREADABLE.split("|")] + [b"\xff", b"root\xff", b"store \xb2", b"\xefoot", b"\x00"]
 
 
 def program(data):
-    return subprocess.run([PROGRAM], input=data, capture_output=True, check=True).stdout
+    """What the program prints for this input, and its status."""
+    ran = subprocess.run([PROGRAM], input=data, stdout=subprocess.PIPE)
+    return ran.stdout.decode(), ran.returncode
 
 
 def store(r):
@@ -46,11 +48,12 @@ def power(r):
     return "power " + r.choice("0 0 1 1 1 2 2 3 01 18446744073709551615 18446744073709551616 -1 x".split() + ["", "1 ", " 1"])
 
 
-def cut(r):
-    """A request while power fails, and what is left; then one more, or none."""
-    asked_with = ["levels 4 bits 4 seed 17"] if r.random() < 0.5 else []
-    lines = ["power %d" % r.choice([0, 1, 1, 1])] + asked_with + [b"sign " + r.choice(TEXTS), "state", "slot"]
-    return lines + [b"sign " + r.choice(TEXTS), "state"][: r.randrange(3)]
+def cut(r, session):
+    """A request while power fails, which may be refused, and what is left; then one more, or none. Lines between that use no power up."""
+    settings, others = "levels 4 bits 4 seed 17", [b"sign", "sIgn x", "look", "state", r.choice(UNREADABLE)]
+    lines = ["power %d" % r.choice([0, 1, 1, 1])] + r.choice([[], [settings], [settings], ["levels 21 bits 4 seed 17"]])
+    lines += r.choice([[], r.sample(others, 2), look(r, session)]) + [b"sign " + r.choice(TEXTS), "state", "slot"]
+    return lines + [settings] * r.randrange(2) + [b"sign " + r.choice(TEXTS), "state"][: r.randrange(3)]
 
 
 # What is asked with more levels than these is refused, or costs nothing since there are no bits.
@@ -132,7 +135,7 @@ def some(r, session):
     if kind in ("root", "state", "slot"):
         return [kind]
     if kind == "cut":
-        return cut(r)
+        return cut(r, session)
     if kind == "line":
         return [r.choice(UNREADABLE)]
     if kind == "sign":
@@ -204,10 +207,10 @@ def megabyte(r, session):
 
 
 def compared(seed, data):
-    """The lines that the program prints, which are the model's."""
-    ours, theirs = program(data).decode(), "".join(answer + "\n" for answer in model.answers(data))
-    if ours != theirs:
-        sys.exit("session %d differs:\n%s\nprogram:\n%s\nmodel:\n%s" % (seed, shown(data.decode(errors="backslashreplace")), shown(ours), shown(theirs)))
+    """The lines that the program prints, which are the model's. It ends with status 0."""
+    (ours, status), theirs = program(data), "".join(answer + "\n" for answer in model.answers(data))
+    if ours != theirs or status != 0:
+        sys.exit("session %d differs:\n%s\nprogram, status %d:\n%s\nmodel:\n%s" % (seed, shown(data.decode(errors="backslashreplace")), status, shown(ours), shown(theirs)))
     return ours.split("\n")
 
 

@@ -17,7 +17,7 @@ import examples
 import model
 import sessions
 
-LONGEST = 20.0  # Seconds that an answer may take. The longest take some milliseconds.
+LONGEST = 20.0  # Seconds that an answer may take.
 QUIET = 0.05  # Seconds for which nothing may come where nothing is to be printed.
 
 
