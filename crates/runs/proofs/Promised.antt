@@ -1,5 +1,5 @@
 -- What is promised of the turns of any run, from what each of them says.
-use Rattle.std.proofs.Common.{◌≡◌, ℕ, ◌+◌, ◌⊎◌, inl, inr, All, List, [], ◌∷◌, ◌++◌, length, vec_items, sym, refl, ap, ◌∙◌, subst, arith}
+use Rattle.std.proofs.Common.{◌≡◌, ℕ, ◌⊎◌, inl, inr, All, List, [], ◌∷◌, ◌++◌, length, vec_items, sym, refl, ap, ◌∙◌, subst, arith}
 use Rattle.std.proofs.lemmas.List.Elements.{All-nil, All-cons, All-head, All-tail}
 use Rattle.hash.specs.Value.{value_of}
 use Rattle.tree.specs.declared.own.Tree.{Tree}
@@ -8,8 +8,8 @@ use Rattle.texts.specs.SignatureLines.{line_after}
 use Rattle.sessions.specs.declared.session.Session.{Session}
 use Rattle.runs.specs.Turns.{Turn}
 use Rattle.runs.specs.Steps.{Turned, Ran, Fresh}
-use Rattle.runs.specs.Promises.{IsStore, IsLevels, NoLevels, AskedWith, KeysRise, SignaturesAccepted, LookedOwn, Promised}
-use Rattle.runs.proofs.Turned.{counted, NotLevels, levelled, shown, key_printed}
+use Rattle.runs.specs.Promises.{IsStore, IsLevels, NoLevels, AskedWith, KeysRise, SignaturesAccepted, LookedOwn, RootsPrinted, Promised}
+use Rattle.runs.proofs.Turned.{counted, NotLevels, levelled, shown, key_printed, root_said}
 
 -- a run as far as one of its turns, that turn, and the rest
 abbrev pub AtTurn : ℕ → Session → (before : List Turn) → Turn → (after : List Turn) → ℕ → Session → Type 0
@@ -78,10 +78,17 @@ looked_own ts n n₁ s s₁ fresh ran before after t e printed =
     let tree = a.1.tree in
     (tree.signer.levels, tree.bits, value_of tree.signer.seed, asked_with before n a.0 s a.1 fresh a.3, (shown a.0 a.1 a.2 t a.4).looks printed)
 
+roots_printed : (ts : List Turn) (n n₁ : ℕ) (s s₁ : Session) → Fresh s → Ran n s ts n₁ s₁ → RootsPrinted ts
+roots_printed ts n n₁ s s₁ fresh ran before after t e root =
+    let a = at_turn before after t n n₁ s s₁ (subst (λ (xs : List Turn). Ran n s xs n₁ s₁) e ran) in
+    let tree = a.1.tree in
+    (tree.signer.levels, tree.bits, value_of tree.signer.seed, asked_with before n a.0 s a.1 fresh a.3, root_said a.0 a.1 a.2 t a.4 root)
+
 pub promised : (ts : List Turn) (n n₁ : ℕ) (s s₁ : Session) → Fresh s → Ran n s ts n₁ s₁ → Promised ts
 promised ts n n₁ s s₁ fresh ran =
     record {
       keys_rise = keys_rise ts n n₁ s s₁ ran;
       signatures_accepted = signatures_accepted ts n n₁ s s₁ fresh ran;
       looked_own = looked_own ts n n₁ s s₁ fresh ran;
+      roots_printed = roots_printed ts n n₁ s s₁ fresh ran;
     }

@@ -25,18 +25,19 @@ use Rattle.signer.specs.Answers.{answer, stored, refusal}
 use Rattle.signer.proofs.Entries.{taken, key_answered}
 use Rattle.texts.specs.Bits.{bits_of_text}
 use Rattle.texts.specs.Commands.{LevelsSpelled, StoreSpelled, Spelled}
-use Rattle.texts.specs.SignatureLines.{line_after, KeySpelled, LinesAre, LinesOf, signature_of}
+use Rattle.texts.specs.SignatureLines.{line_after, KeySpelled, LinesAre, AreSignature, LinesOf, signature_of}
+use Rattle.texts.proofs.ReadBack.{read_fits}
 use Rattle.texts.specs.declared.command.Command.{Command}
 use Rattle.texts.specs.declared.command.Command.TheVariants.{Store, Levels, Root, Sign, Look, Power, Slot, State}
 use Rattle.texts.specs.declared.signature.ReadSignature.{ReadSignature}
 use Rattle.texts.specs.declared.signature.SignatureLines.{SignatureLines}
 use Rattle.sessions.specs.Replies.{sign_spelled, look_spelled}
-use Rattle.sessions.specs.Sessions.{Says, Executed, Answered, power_of, look_answer}
+use Rattle.sessions.specs.Sessions.{Says, Executed, Answered, power_of, root_answer, look_answer}
 use Rattle.sessions.specs.declared.session.Session.{Session}
 use Rattle.sessions.proofs.Promised.{promised, promised_strings}
 use Rattle.runs.specs.Turns.{Turn}
 use Rattle.runs.specs.Steps.{Turned}
-use Rattle.runs.specs.Promises.{Begins, IsStore, IsLevels, PrintsKey, SignsText, AreSignature, LooksAtOwn}
+use Rattle.runs.specs.Promises.{Begins, IsStore, IsLevels, PrintsKey, SignsText, LooksAtOwn}
 use Rattle.runs.proofs.Printed.{Other, by_first, refusal_other, refused_or, number_other, key_named}
 
 -- The count: no turn but a `store` line puts it back.
@@ -182,7 +183,7 @@ shown_by (Look r x) t line behind four first o s s₁ e sp lines done said p =
       looks = λ f.
           let y = promised_strings s (Look r x) four o (promised row_hash s (Look r x) four o said) (text_said o _ (sym p ∙ f)) in
           let typed = e ∙ ap (λ (cs : List ℕ). cs ∷ behind) (sp ∙ ap (λ (bs : List ℕ). codes "look " ++ (hex bs ++ (codes " " ++ vec_items x))) (bytes_back r)) in
-          (value_of r, vec_items x, behind, signature_of y.0, bounded r, typed, are_signature four first behind (signature_of y.0) lines y.1, y.2);
+          (value_of r, vec_items x, behind, signature_of y.0, bounded r, typed, are_signature four first behind (signature_of y.0) lines y.1, read_fits y.0 four y.1, y.2);
     }
 shown_by Slot t line behind four first o s s₁ e sp lines done said p = quiet s s₁ t _ (p ∙ said_text o _ said) (by_first _ (λ c. omega (arith, c)) (λ c. omega (arith, c)))
 shown_by State t line behind four first o s s₁ e sp lines done said p = quiet s s₁ t _ (p ∙ said_text o _ said) (by_first _ (λ c. omega (arith, c)) (λ c. omega (arith, c)))
@@ -201,3 +202,24 @@ key_printed n k s s₁ t turn (line, rest, p, named) =
     let text = sign.own.2 in
     let same : signature_text (own_signature s sign.own.0 found.0) ≡ line ++ (10 ∷ rest) = cc in
     subst (Signs s t s₁) (key_named (own_signature s sign.own.0 found.0) line rest k sign.small same named) sign
+
+-- What answers a `root` line. Of all commands `root` alone begins with an r.
+abbrev pub RootSaid : Session → Turn → Type 0
+RootSaid s t = t.printed ≡ Some (root_answer row_hash s)
+
+no_root : {P : Type 0} (w line : List ℕ) → line ≡ w → line ≡ codes "root" → (get_or w 0 0 ≡ 114 → ⊥) → P
+no_root w line is root other = absurd (other (ap (λ (cs : List ℕ). get_or cs 0 0) (sym is ∙ root)))
+
+root_by : (c : Command) (t : Turn) (line : List ℕ) (four : SignatureLines) (o : Option (String Global)) (s : Session) → line ≡ codes "root" → Spelled line c → Answered row_hash s c four o →
+    t.printed ≡ option_map string_bytes o → RootSaid s t
+root_by Root t line four o s e sp said p = p ∙ said_text o _ said
+root_by (Store v) t line four o s e sp said p = no_root _ line sp.1 e (λ c. omega (arith, c))
+root_by (Levels v) t line four o s e sp said p = no_root _ line sp.1 e (λ c. omega (arith, c))
+root_by (Power k) t line four o s e sp said p = no_root _ line sp.1 e (λ c. omega (arith, c))
+root_by c t line four o s e sp said p = no_root _ line sp e (λ c. omega (arith, c))
+
+pub root_said : (n : ℕ) (s s₁ : Session) (t : Turn) → Turned n s t s₁ → Begins t (codes "root") → RootSaid s t
+root_said n s s₁ t (line, behind, e, inl (c, four, o, sp, lines, done, said, p)) (others, f) =
+    let first : line ≡ codes "root" = ap (λ (ls : List (List ℕ)). get_or ls 0 []) (sym e ∙ f) in root_by c t line four o s first sp said p
+root_said n s s₁ t (line, behind, e, inr (unread, p, done)) (others, f) =
+    absurd (unread Root (ap (λ (ls : List (List ℕ)). get_or ls 0 []) (sym e ∙ f)))

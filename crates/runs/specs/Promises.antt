@@ -1,17 +1,19 @@
 -- What is promised of the turns of any run, in words of what was typed and what was printed. Assumes nothing: these are definitions.
-use Rattle.std.specs.Prelude.{◌≡◌, ℕ, ◌<◌, true, ◌⊎◌, All, List, ◌∷◌, ◌++◌, Some, codes}
+use Rattle.std.specs.Prelude.{◌≡◌, ℕ, ◌^◌, ◌<◌, true, ◌⊎◌, All, List, ◌∷◌, ◌++◌, Some, codes}
 use Rattle.hash.specs.Hex.{hex}
 use Rattle.hash.specs.Value.{bytes_of, value_of}
 use Rattle.sha256.specs.Rows.{row_hash}
+use Rattle.keys.specs.Refusals.{tree_refusal}
 use Rattle.tree.specs.Tree.{node}
 use Rattle.tree.specs.declared.own.Tree.{Tree}
-use Rattle.signatures.specs.Lines.{numbers_line, signature_text}
+use Rattle.signatures.specs.Lines.{signature_text}
 use Rattle.signatures.specs.Signatures.{Signature, signed, accepted}
 use Rattle.signer.specs.Promises.{Own}
 use Rattle.digests.specs.Digests.{LocatedStrings}
 use Rattle.texts.specs.Bits.{bits_of_text}
 use Rattle.texts.specs.Commands.{LevelsSpelled, StoreSpelled}
-use Rattle.texts.specs.SignatureLines.{line_at, KeySpelled}
+use Rattle.texts.specs.SignatureLines.{KeySpelled, AreSignature, Fits}
+use Rattle.sessions.specs.Sessions.{refusal_or}
 use Rattle.runs.specs.Turns.{Turn}
 
 -- the first line of a turn
@@ -59,17 +61,11 @@ SignaturesAccepted ts =
     (before after : List Turn) (t : Turn) (k : ℕ) → ts ≡ before ++ (t ∷ after) → PrintsKey t k →
     (l : ℕ) × (n : ℕ) × (seed : ℕ) × AskedWith before l n seed × SignsText t l n seed k
 
--- four lines are those of a signature
-abbrev pub AreSignature : List (List ℕ) → Signature → Type 0
-AreSignature lines g =
-    KeySpelled (line_at lines 0) g.key × (line_at lines 1 ≡ numbers_line (codes "parts") g.parts) × (line_at lines 2 ≡ numbers_line (codes "others") g.others)
-    × (line_at lines 3 ≡ numbers_line (codes "path") g.path)
-
 -- a turn is a `look` line with a root and a text, and behind it the lines of a signature that is, of every signer whose root this is, the signer's own for just these bits; or two byte strings differ and have the same SHA-256, one hashed in looking at it and one in the signer's own tree
 abbrev pub LooksAtOwn : Turn → (levels bits : ℕ) → Type 0
 LooksAtOwn t k n =
     (root : ℕ) × (text : List ℕ) × (behind : List (List ℕ)) × (g : Signature) × (root < 2 ^ 256)
-    × (t.typed ≡ (codes "look " ++ (hex (bytes_of root) ++ (codes " " ++ text))) ∷ behind) × AreSignature behind g
+    × (t.typed ≡ (codes "look " ++ (hex (bytes_of root) ++ (codes " " ++ text))) ∷ behind) × AreSignature behind g × Fits g
     × ((s l m : ℕ) → root ≡ node row_hash m s l 0 → Own row_hash s l m k (bits_of_text row_hash text n) g ⊎ LocatedStrings m s l (bits_of_text row_hash text n) g)
 
 -- where `accepted` is printed, it answers such a turn, with the levels and bits that were asked with
@@ -78,8 +74,15 @@ LookedOwn ts =
     (before after : List Turn) (t : Turn) → ts ≡ before ++ (t ∷ after) → t.printed ≡ Some (codes "accepted") →
     (k : ℕ) × (n : ℕ) × (seed : ℕ) × AskedWith before k n seed × LooksAtOwn t k n
 
+-- what answers a `root` line is that root, or a refusal where there is none
+abbrev pub RootsPrinted : List Turn → Type 0
+RootsPrinted ts =
+    (before after : List Turn) (t : Turn) → ts ≡ before ++ (t ∷ after) → Begins t (codes "root") →
+    (l : ℕ) × (n : ℕ) × (seed : ℕ) × AskedWith before l n seed × (t.printed ≡ Some (refusal_or (tree_refusal l n) (hex (bytes_of (node row_hash n seed l 0)))))
+
 -- all of it
 pub record Promised (ts : List Turn) : Type 0 where
   pub keys_rise : KeysRise ts
   pub signatures_accepted : SignaturesAccepted ts
   pub looked_own : LookedOwn ts
+  pub roots_printed : RootsPrinted ts

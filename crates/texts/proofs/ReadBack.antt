@@ -68,10 +68,14 @@ key_below cs k s =
     let parts = cond_some _ (digits_value s.0) k s.2 in
     let below = ltb-true (digits_value s.0) (2 ^ 64) (and_parts (all_digits s.0) _ (and_parts (nat_lt 0 (length s.0)) _ parts.0).1).1 in omega (arith, below, parts.1)
 
+-- a signature that was read is one of numbers of the program
+pub read_fits : (s : ReadSignature) (t : SignatureLines) → LinesOf (signature_of s) t → Fits (signature_of s)
+read_fits s t read = (key_below t.key.now s.key read.0, numbers_below s)
+
 -- what is read of the lines of a signature that is printed is that signature
 pub read_back : (t : SignatureLines) (s : ReadSignature) → LinesOf (signature_of s) t → (g : Signature) → Fits g → FourLines t (signature_text g) → signature_of s ≡ g
 read_back t s read g f l =
-    one_signature t (signature_of s) g (key_below t.key.now s.key read.0, numbers_below s) f read (spelled_back t g f l)
+    one_signature t (signature_of s) g (read_fits s t read) f read (spelled_back t g f l)
 
 -- and it is printed as it was read, but for zeros in front of the key
 pub printed_again : (t : SignatureLines) (s : ReadSignature) → LinesOf (signature_of s) t → KeyPlain t → FourLines t (signature_text (signature_of s))

@@ -38,13 +38,21 @@ signature_of s =
 abbrev pub KeySpelled : List ℕ → ℕ → Type 0
 KeySpelled cs k = (ds : List ℕ) × (cs ≡ codes "key " ++ ds) × (decimal_of (2 ^ 64) ds ≡ Some k)
 
--- the lines are those of a signature
+-- four lines are those of a signature
+abbrev pub AreSignature : List (List ℕ) → Signature → Type 0
+AreSignature ls g =
+    KeySpelled (line_at ls 0) g.key
+    × (line_at ls 1 ≡ numbers_line (codes "parts") g.parts)
+    × (line_at ls 2 ≡ numbers_line (codes "others") g.others)
+    × (line_at ls 3 ≡ numbers_line (codes "path") g.path)
+
+-- the four lines
+abbrev pub lines : SignatureLines → List (List ℕ)
+lines t = t.key.now ∷ t.parts.now ∷ t.others.now ∷ t.path.now ∷ []
+
+-- they are those of a signature
 abbrev pub LinesOf : Signature → SignatureLines → Type 0
-LinesOf g t =
-    KeySpelled t.key.now g.key
-    × (t.parts.now ≡ numbers_line (codes "parts") g.parts)
-    × (t.others.now ≡ numbers_line (codes "others") g.others)
-    × (t.path.now ≡ numbers_line (codes "path") g.path)
+LinesOf g t = AreSignature (lines t) g
 
 -- that line k can be read
 abbrev pub Readable : SignatureLines → ℕ → Type 0
@@ -65,7 +73,7 @@ Fits g = (g.key < 2 ^ 64) × ((v : ℕ) → In v (numbers g) → v < 2 ^ 256)
 
 -- the lines are those of a text
 abbrev pub FourLines : SignatureLines → List ℕ → Type 0
-FourLines t cs = lines_of cs ≡ t.key.now ∷ t.parts.now ∷ t.others.now ∷ t.path.now ∷ []
+FourLines t cs = lines_of cs ≡ lines t
 
 -- the key is written as it is printed, with no 0 in front
 abbrev pub KeyPlain : SignatureLines → Type 0
