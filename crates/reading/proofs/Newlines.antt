@@ -1,9 +1,8 @@
 -- The lines of a text, and those of a signature that is printed.
-use Rattle.std.proofs.Common.{◌≡◌, ℕ, zero, suc, ◌^◌, ◌<◌, true, nat_lt, List, [], ◌∷◌, ◌++◌, length, get_or, codes, decimal, sym, refl, ap, ◌∙◌, arith}
+use Rattle.std.proofs.Common.{◌≡◌, ℕ, zero, suc, ◌^◌, ◌<◌, true, nat_lt, List, [], ◌∷◌, ◌++◌, length, codes, decimal, refl, ap, ◌∙◌, arith}
 use Rattle.std.specs.List.{flat_map, list_all}
 use Rattle.std.specs.Str.Iter.{LacksByte}
 use Rattle.std.proofs.lemmas.Bool.{and_parts, cond-false, ltb-true, ne_eqb}
-use Rattle.std.proofs.lemmas.Fmt.{decimal_injective}
 use Rattle.hash.specs.Hex.{hex}
 use Rattle.hash.specs.Value.{bytes_of}
 use Rattle.signatures.specs.Lines.{numbers_line, signature_text}
@@ -69,9 +68,3 @@ lines_of_signature g small =
     (lines_cut others _ (line_lacks (codes "others") g.others (letters_lack (codes "others") refl))
     ∙ ap (λ (ls : List (List ℕ)). others ∷ ls) (lines_last path (omega arith) (line_lacks (codes "path") g.path (letters_lack (codes "path") refl))))) in
     cut
-
--- a decimal that a newline follows tells its number
-pub key_told : (k j : ℕ) (rest others : List ℕ) → k < 2 ^ 64 → j < 2 ^ 64 → decimal k ++ (10 ∷ rest) ≡ decimal j ++ (10 ∷ others) → k ≡ j
-key_told k j rest others sk sj e =
-    let lines = sym (lines_cut (decimal k) rest (decimal_line k sk)) ∙ (ap lines_of e ∙ lines_cut (decimal j) others (decimal_line j sj)) in
-    decimal_injective k j sk sj (ap (λ (ls : List (List ℕ)). get_or ls 0 []) lines)

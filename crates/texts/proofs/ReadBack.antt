@@ -1,7 +1,6 @@
 -- What is printed of a signature is read back as that signature, and printed again as it was.
 use Rattle.std.proofs.Common.{◌≡◌, ℕ, ◌^◌, ◌<◌, nat_lt, List, [], ◌∷◌, ◌++◌, map, length, get_or, vec_items, codes, decimal, sym, ap, ◌∙◌, subst, inl, inr, arith}
 use Rattle.std.proofs.lemmas.Bool.{and_parts, ltb-true}
-use Rattle.std.proofs.lemmas.Fmt.{decimal_injective}
 use Rattle.std.proofs.lemmas.List.{append_cancel_left}
 use Rattle.std.proofs.lemmas.Option.{cond_some}
 use Rattle.hash.specs.Members.{In}
@@ -11,7 +10,6 @@ use Rattle.hash.proofs.Members.{In_left, In_right, In-append, from_map}
 use Rattle.hash.proofs.Numbers.{bounded}
 use Rattle.signatures.specs.Lines.{numbers_line, signature_text}
 use Rattle.signatures.specs.Signatures.{Signature, numbers}
-use Rattle.reading.specs.Newlines.{lines_of}
 use Rattle.reading.specs.Spelling.{all_digits, digits_value, decimal_of}
 use Rattle.reading.proofs.Newlines.{signature_lines, lines_of_signature}
 use Rattle.reading.proofs.Printed.{decimal_read, decimal_printed, numbers_told}
@@ -45,14 +43,6 @@ one_key cs k j s r = let same = append_cancel_left (codes "key ") s.0 r.0 (sym s
 pub one_signature : (t : SignatureLines) (g h : Signature) → Fits g → Fits h → LinesOf g t → LinesOf h t → g ≡ h
 one_signature t g h f e s r =
     same_signature g h f e (one_key t.key.now g.key h.key s.0 r.0) (sym s.1 ∙ r.1) (sym s.2 ∙ r.2) (sym s.3 ∙ r.3)
-
--- and so does what is printed
-pub signature_text_tells : (g h : Signature) → Fits g → Fits h → signature_text g ≡ signature_text h → g ≡ h
-signature_text_tells g h f e text =
-    let line : (k : ℕ) → get_or (signature_lines g) k [] ≡ get_or (signature_lines h) k [] =
-    λ k. ap (λ (ls : List (List ℕ)). get_or ls k []) (sym (lines_of_signature g f.0) ∙ (ap lines_of text ∙ lines_of_signature h e.0)) in
-    let key = decimal_injective g.key h.key f.0 e.0 (append_cancel_left (codes "key ") _ _ (line 0)) in
-    same_signature g h f e key (line 1) (line 2) (line 3)
 
 -- the numbers of a signature that was read are numbers of the program
 pub numbers_below : (s : ReadSignature) (v : ℕ) → In v (numbers (signature_of s)) → v < 2 ^ 256

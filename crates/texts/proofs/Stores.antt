@@ -7,29 +7,29 @@ use Rattle.reading.specs.Reading.{Reads, ReadsAs}
 use Rattle.reading.specs.Spaced.{SpacedWords, counts_line}
 use Rattle.reading.specs.Spelling.{decimal_of}
 use Rattle.reading.proofs.Printed.{counts_read, counts_told, counts_printed}
-use Rattle.texts.specs.Commands.{Spelled, IsStore, PlainStore}
+use Rattle.texts.specs.Commands.{Spelled, IsStoreOf, PlainStore}
 use Rattle.texts.specs.declared.command.Command.{Command}
 use Rattle.texts.specs.declared.command.Command.TheVariants.{Store}
 use Rattle.texts.proofs.Cuts.{stored_words}
 
 -- what was read of counts is these
 is_store : (text vs : List ℕ) (o : Option (Vec ℕ Global)) (r : Option Command) → MatchOption o (r ≡ None) (λ x. IsSomeAnd r (λ c. c ≡ Store x)) →
-    ReadsAs (SpacedWords (λ w v. decimal_of (2 ^ 32) w ≡ Some v) text) (λ v. vec_items v) o → SpacedWords (λ w v. decimal_of (2 ^ 32) w ≡ Some v) text vs → IsSomeAnd r (IsStore vs)
+    ReadsAs (SpacedWords (λ w v. decimal_of (2 ^ 32) w ≡ Some v) text) (λ v. vec_items v) o → SpacedWords (λ w v. decimal_of (2 ^ 32) w ≡ Some v) text vs → IsSomeAnd r (IsStoreOf vs)
 is_store text vs None r m none words = absurd (none vs words)
 is_store text vs (Some x) None m read words = absurd m
 is_store text vs (Some x) (Some c) m read words =
-    subst (λ (k : Command). IsStore vs k) (sym m) (counts_told (2 ^ 32) (omega arith) text (vec_items x) vs read words)
+    subst (λ (k : Command). IsStoreOf vs k) (sym m) (counts_told (2 ^ 32) (omega arith) text (vec_items x) vs read words)
 
 -- what stands behind the word of a store that is printed is read as its numbers
 pub store_back : (line text vs : List ℕ) (o : Option (Vec ℕ Global)) (r : Option Command) → MatchOption o (r ≡ None) (λ x. IsSomeAnd r (λ c. c ≡ Store x)) →
     ReadsAs (SpacedWords (λ w v. decimal_of (2 ^ 32) w ≡ Some v) text) (λ v. vec_items v) o → line ≡ codes "store" ++ text → ((v : ℕ) → In v vs → v < 2 ^ 32) → line ≡ counts_line (codes "store") vs →
-    IsSomeAnd r (IsStore vs)
+    IsSomeAnd r (IsStoreOf vs)
 store_back line text vs o r m read e b p =
     let behind = append_cancel_left (codes "store") _ text (sym p ∙ e) in
     is_store text vs o r m read (subst (λ (t : List ℕ). SpacedWords (λ w v. decimal_of (2 ^ 32) w ≡ Some v) t vs) behind (counts_read (2 ^ 32) (omega arith) vs b))
 
 -- and a store that was read is printed again as it was
-pub store_again : (line : List ℕ) (o : Option Command) → Reads (Spelled line) o → IfSome o (λ c. (vs : List ℕ) → IsStore vs c → PlainStore line → line ≡ counts_line (codes "store") vs)
+pub store_again : (line : List ℕ) (o : Option Command) → Reads (Spelled line) o → IfSome o (λ c. (vs : List ℕ) → IsStoreOf vs c → PlainStore line → line ≡ counts_line (codes "store") vs)
 store_again line None read = tt
 store_again line (Some (Store v)) read = λ vs is plain.
     let text_is = append_cancel_left (codes "store") _ read.0 (sym plain.1 ∙ read.1) in

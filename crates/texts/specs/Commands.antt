@@ -40,9 +40,9 @@ Spelled cs Slot = cs ≡ codes "slot"
 Spelled cs State = cs ≡ codes "state"
 
 -- a command is the store of these numbers
-abbrev pub IsStore : List ℕ → Command → Type 0
-IsStore vs (Store v) = vec_items v ≡ vs
-IsStore vs c = ⊥
+abbrev pub IsStoreOf : List ℕ → Command → Type 0
+IsStoreOf vs (Store v) = vec_items v ≡ vs
+IsStoreOf vs c = ⊥
 
 -- a line is `store` and words with no 0 in front, but for 0 itself, each after one space
 abbrev pub PlainStore : List ℕ → Type 0

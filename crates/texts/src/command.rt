@@ -1,8 +1,8 @@
 // The lines that ask for something.
-ghost use Rattle.std.specs.Prelude.{◌≡◌, ℕ, ◌^◌, ◌<◌, List, ◌++◌, IfOk, IfSome, IsSomeAnd, codes, MatchOption, slice_index};
+ghost use Rattle.std.specs.Prelude.{◌≡◌, ℕ, ◌^◌, ◌<◌, true, List, ◌++◌, IfOk, IfSome, IsSomeAnd, codes, MatchOption, slice_index};
 ghost use Rattle.hash.specs.declared.number.Number.{Number};
 ghost use Rattle.tree.specs.declared.own.Tree.{Tree};
-ghost use Rattle.texts.specs.Commands.{DecimalBefore, LevelsSpelled, Spelled, takes_four, IsStore, PlainStore};
+ghost use Rattle.texts.specs.Commands.{DecimalBefore, LevelsSpelled, Spelled, takes_four, IsStoreOf, PlainStore};
 ghost use Rattle.reading.specs.Reading.{Reads};
 ghost use Rattle.reading.specs.Spaced.{counts_line};
 ghost use Rattle.hash.specs.Members.{In};
@@ -28,8 +28,10 @@ pub enum Command {
 }
 
 // Whether a line's first word is `look`, so that the next four lines belong to it, whatever it and they hold.
+#[tactic(auto, using(crate::proofs::Looks::look_takes_four))]
 pub fn takes_four(line: &[u8]) -> bool
-    ensures { result ≡ takes_four line.now }
+    ensures takes { result ≡ takes_four line.now }
+    ensures look { (r : Number) (t : List ℕ) → line.now ≡ codes "look " ++ (hex r.bytes ++ (codes " " ++ t)) → result ≡ true }
 {
     line == b"look".as_slice() || line.starts_with(b"look ")
 }
@@ -68,8 +70,8 @@ fn read_look(heap: Global, text: &[u8]) -> Result<Option<Command>, AllocError>
 // The command that a line is, if it is one. A store that is printed is read back, and what is read is printed as it was but for zeros in front.
 pub fn read_command(heap: Global, line: &[u8]) -> Result<Option<Command>, AllocError>
     ensures read { IfOk result (Reads (Spelled line.now)) }
-    ensures back { (vs : List ℕ) → ((v : ℕ) → In v vs → v < 2 ^ 32) → line.now ≡ counts_line (codes "store") vs → IfOk result (λ o. IsSomeAnd o (IsStore vs)) }
-    ensures again { IfOk result (λ o. IfSome o (λ c. (vs : List ℕ) → IsStore vs c → PlainStore line.now → line.now ≡ counts_line (codes "store") vs)) }
+    ensures back { (vs : List ℕ) → ((v : ℕ) → In v vs → v < 2 ^ 32) → line.now ≡ counts_line (codes "store") vs → IfOk result (λ o. IsSomeAnd o (IsStoreOf vs)) }
+    ensures again { IfOk result (λ o. IfSome o (λ c. (vs : List ℕ) → IsStoreOf vs c → PlainStore line.now → line.now ≡ counts_line (codes "store") vs)) }
 {
     if let Some(text) = after(line, b"sign ") {
         return Ok(Some(Command::Sign(Vec::from_slice(heap, text)?)));
