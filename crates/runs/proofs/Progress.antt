@@ -13,7 +13,7 @@ use Rattle.texts.specs.SignatureLines.{line_after}
 use Rattle.sessions.specs.declared.session.Session.{Session}
 use Rattle.runs.specs.Turns.{whole, last_turn, turns_from, turns_of, Turn, bytes_printed}
 use Rattle.runs.specs.Steps.{Turned, Ran, Fresh, taken, EndsTurn, Stepped, Finished}
-use Rattle.runs.specs.Runs.{AppendsFront, Run}
+use Rattle.runs.specs.Runs.{AppendsFront, Run, Ended}
 use Rattle.runs.proofs.Appended.{appends_nothing, appends_both}
 use Rattle.runs.specs.declared.program.Program.{Program}
 use Rattle.runs.proofs.Promised.{promised}
@@ -144,9 +144,6 @@ known_done (Some xs) (Some ys) before now p p₁ o k end f =
     let d = done_of xs k.0 (taken p) p p₁ o refl so_far f in ((k.0, k.1, subst (λ (l : List ℕ). Progress xs l (k.0 ++ bytes_printed o) p₁) (sym end) d.1), d.0)
 
 -- a run that ends, well or not
-abbrev pub Ended : {E : Type 0} → (input before now : Option (List ℕ)) → Result (Unit {0}) E → Type 0
-Ended input before now r = IfSome input (λ xs. (printed : List ℕ) × (ts : List Turn) × (to_come : List (List (List ℕ))) × (left : List ℕ) × Appends before now printed × Run xs printed ts to_come left × OnOk r ((to_come ≡ []) × (left ≡ [])))
-
 pub known_ended : {E : Type 0} (r : Result (Unit {0}) E) (input left before now : Option (List ℕ)) (bytes : List ℕ) (p : Program) → Known input left before now bytes p →
     OnOk r (IsAtEnd left × IfSome input (λ _. taken p ≡ []) × (bytes ≡ [])) → Ended input before now r
 unfolding turns_from

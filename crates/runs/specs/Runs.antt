@@ -1,5 +1,5 @@
 -- A run: the bytes that are read and those that are printed. Assumes nothing: these are definitions.
-use Rattle.std.specs.Prelude.{◌≡◌, ℕ, List, ◌++◌, map, Option}
+use Rattle.std.specs.Prelude.{◌≡◌, ℕ, List, [], ◌++◌, map, Option, Result, IfSome, OnOk}
 use Rattle.std.specs.List.{flat_map}
 use Rattle.std.specs.Io.KnownBytes.{Appends}
 use Rattle.reading.specs.Newlines.{lines_of}
@@ -18,3 +18,9 @@ pub record Run (input printed : List ℕ) (ts : List Turn) (more : List (List (L
   pub shown : flat_map (λ t. bytes_printed t.printed) ts ≡ printed ++ left
   pub answered : (s : Session) × (n₁ : ℕ) × (s₁ : Session) × Fresh s × Ran 0 s ts n₁ s₁
   pub promised : Promised ts
+
+-- A run has ended. Of a reader that told its bytes: these were read, and a writer took what was printed; where the run ended well, nothing is to come
+abbrev pub Ended : {E : Type 0} → (input before after : Option (List ℕ)) → Result (Unit {0}) E → Type 0
+Ended input before after r =
+    IfSome input (λ xs. (printed : List ℕ) × (ts : List Turn) × (more : List (List (List ℕ))) × (left : List ℕ)
+    × Appends before after printed × Run xs printed ts more left × OnOk r ((more ≡ []) × (left ≡ [])))

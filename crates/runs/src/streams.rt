@@ -1,9 +1,9 @@
 // Reads lines to the end, asks the program, and prints what it answers.
-ghost use Rattle.std.specs.Prelude.{◌≡◌, ℕ, ◌≤◌, List, [], length, IfOk, OnOk, IfSome, string_bytes};
+ghost use Rattle.std.specs.Prelude.{◌≡◌, ℕ, ◌≤◌, List, [], length, IfOk, OnOk, string_bytes};
 ghost use Rattle.std.specs.Option.{option_map};
-ghost use Rattle.std.specs.Io.KnownBytes.{Appends, WriteAppends};
-ghost use Rattle.runs.specs.Turns.{Turn, bytes_printed};
-ghost use Rattle.runs.specs.Runs.{AppendsFront, Run};
+ghost use Rattle.std.specs.Io.KnownBytes.{WriteAppends};
+ghost use Rattle.runs.specs.Turns.{bytes_printed};
+ghost use Rattle.runs.specs.Runs.{AppendsFront, Ended};
 
 use crate::program::Program;
 use std::alloc::Global;
@@ -52,7 +52,7 @@ fn print<W: Write>(writer: &mut W, text: Option<String>) -> io::Result<()>
 
 // Takes the lines one by one, each answered before the next one is waited for, to the end of the input.
 pub fn run<R: BufRead + Drop, W: Write>(heap: Global, reader: R, writer: &mut W) -> io::Result<()>
-    ensures { IfSome (R.remaining reader) (λ input. (printed : List ℕ) × (ts : List Turn) × (more : List (List (List ℕ))) × (left : List ℕ) × Appends (W.contents writer.old) (W.contents writer.new) printed × Run input printed ts more left × OnOk result ((more ≡ []) × (left ≡ []))) }
+    ensures { Ended (R.remaining reader) (W.contents writer.old) (W.contents writer.new) result }
 {
     let mut program = Program::new(heap);
     for line in reader.split(heap, b'\n') {
