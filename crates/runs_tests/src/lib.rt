@@ -1,0 +1,11 @@
+// Tests of whole runs: what is printed for each line, and for bytes that end, or cannot be read, anywhere.
+#![tactic(auto)]
+
+#[cfg(test)]
+mod lines;
+#[cfg(test)]
+mod numbers;
+#[cfg(test)]
+mod printed;
+#[cfg(test)]
+mod unreadable;
