@@ -4,10 +4,14 @@
 #[cfg(test)]
 mod lines;
 #[cfg(test)]
+mod long;
+#[cfg(test)]
 mod looks;
 #[cfg(test)]
 mod numbers;
 #[cfg(test)]
 mod printed;
+#[cfg(test)]
+mod rounds;
 #[cfg(test)]
 mod unreadable;

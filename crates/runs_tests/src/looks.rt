@@ -14,7 +14,7 @@ const LOOKED: &'static [u8] = b"levels 0 bits 1 seed 17\n\
     path\n";
 
 // From how many of these bytes on which answer is printed.
-const CUTS: [(usize, &'static str); 14] = [
+const CUTS: [(usize, &'static str); 13] = [
     (0, ""),
     (1, "5 0\n"),
     // `levels 0 bits 1 seed 1` can be read
@@ -31,19 +31,20 @@ const CUTS: [(usize, &'static str); 14] = [
     (185, "5 4\n"),
     (249, "5 5\n"),
     (254, "accepted\n"),
-    (255, "accepted\n"),
 ];
+
+fn answer_to(length: usize) -> &'static str {
+    CUTS.iter()
+        .rev()
+        .find(|cut| cut.0 <= length)
+        .map_or("", |cut| cut.1)
+}
 
 #[test]
 fn looks_that_are_cut_short(rt: HostRuntime) -> Result<(), Fail> {
-    let mut answer = "";
     for length in 0..=LOOKED.len() {
-        if let Some((_, later)) = CUTS.iter().find(|(from, _)| *from == length) {
-            answer = later;
-        }
-        compare(&rt, rt.alloc(), &LOOKED[..length], answer)?;
+        compare(&rt, rt.alloc(), &LOOKED[..length], answer_to(length))?;
     }
-    assert_eq!(rt; LOOKED.len(), 255);
     Ok(())
 }
 

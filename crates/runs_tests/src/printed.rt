@@ -7,9 +7,6 @@ use std::process::Abort;
 use std::str::from_utf8;
 use std::test::Fail;
 
-// How many bytes a reader hands out at a time.
-const PIECES: [usize; 3] = [1, 2, 7];
-
 pub fn printed(heap: Global, input: &[u8]) -> io::Result<Vec<u8>> {
     let mut reader = input;
     let mut output = Vec::new(heap);
@@ -24,12 +21,18 @@ fn printed_in_pieces(heap: Global, input: &[u8], size: usize) -> io::Result<Vec<
     Ok(output)
 }
 
-// Compares what is printed with what is expected: for the input as a whole, and in pieces.
-pub fn compare(rt: &impl Abort, heap: Global, input: &[u8], expected: &str) -> Result<(), Fail> {
+// Compares what is printed with what is expected: for the input as a whole, and handed out in pieces of each of these sizes.
+pub fn compare_in_pieces(
+    rt: &impl Abort,
+    heap: Global,
+    input: &[u8],
+    expected: &str,
+    sizes: &[usize],
+) -> Result<(), Fail> {
     let output = printed(heap, input)?;
     assert_eq!(rt; from_utf8(&output)?, expected, "{}", input.escape_ascii());
-    for size in PIECES {
-        let output = printed_in_pieces(heap, input, size)?;
+    for size in sizes {
+        let output = printed_in_pieces(heap, input, *size)?;
         assert_eq!(rt;
             from_utf8(&output)?,
             expected,
@@ -38,4 +41,9 @@ pub fn compare(rt: &impl Abort, heap: Global, input: &[u8], expected: &str) -> R
         );
     }
     Ok(())
+}
+
+// The same, with pieces of a few bytes.
+pub fn compare(rt: &impl Abort, heap: Global, input: &[u8], expected: &str) -> Result<(), Fail> {
+    compare_in_pieces(rt, heap, input, expected, &[1, 2, 7])
 }
