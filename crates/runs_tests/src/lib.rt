@@ -1,6 +1,8 @@
-// Tests of whole runs: what is printed for each line, and for bytes that end, or cannot be read, anywhere.
+// Tests of whole runs: what is printed for each line, and for bytes that end, fail or cannot be read anywhere.
 #![tactic(auto)]
 
+#[cfg(test)]
+mod failing;
 #[cfg(test)]
 mod lines;
 #[cfg(test)]
@@ -11,6 +13,10 @@ mod looks;
 mod numbers;
 #[cfg(test)]
 mod printed;
+#[cfg(test)]
+mod random;
+#[cfg(test)]
+mod requests;
 #[cfg(test)]
 mod rounds;
 #[cfg(test)]
