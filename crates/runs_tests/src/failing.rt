@@ -37,9 +37,9 @@ fn input_that_fails(rt: HostRuntime) -> Result<(), Fail> {
     let heap = rt.alloc();
     for (input, expected) in BROKEN {
         let broken = BufReader::with_capacity(heap, 8, Broken)?;
-        let mut reader = input.chain(broken);
+        let reader = input.chain(broken);
         let mut output = Vec::new(heap);
-        let result = run(heap, &mut reader, &mut output);
+        let result = run(heap, reader, &mut output);
         let kind = result.err().map(|error| error.kind());
         assert_eq!(rt;
             kind,
@@ -76,9 +76,9 @@ const PRINTED: &'static [u8] = b"store 0 3 0 3\n\
 
 fn compare_full(rt: &impl Abort, heap: Global, room: usize) -> Result<(), Fail> {
     let mut output = vec![in heap; 0; room]?;
-    let mut reader = TYPED;
+    let reader = TYPED;
     let mut writer = output.as_mut_slice();
-    let result = run(heap, &mut reader, &mut writer);
+    let result = run(heap, reader, &mut writer);
     let front = PRINTED.get(..room).unwrap_or(PRINTED);
     assert_eq!(rt; result.is_ok(), room >= PRINTED.len(), "room for {room}");
     assert_eq!(rt; output.as_slice(), front, "room for {room}");

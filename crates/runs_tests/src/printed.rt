@@ -8,16 +8,16 @@ use std::str::from_utf8;
 use std::test::Fail;
 
 pub fn printed(heap: Global, input: &[u8]) -> io::Result<Vec<u8>> {
-    let mut reader = input;
+    let reader = input;
     let mut output = Vec::new(heap);
-    run(heap, &mut reader, &mut output)?;
+    run(heap, reader, &mut output)?;
     Ok(output)
 }
 
 fn printed_in_pieces(heap: Global, input: &[u8], size: usize) -> io::Result<Vec<u8>> {
-    let mut reader = BufReader::with_capacity(heap, size, input)?;
+    let reader = BufReader::with_capacity(heap, size, input)?;
     let mut output = Vec::new(heap);
-    run(heap, &mut reader, &mut output)?;
+    run(heap, reader, &mut output)?;
     Ok(output)
 }
 
