@@ -1,5 +1,6 @@
 -- The lemmas of this crate.
 mod Appended
+mod Asked
 mod Printed
 mod Progress
 mod Promised

@@ -2,5 +2,6 @@
 mod Commanded
 mod Cuts
 pub mod Looks
+pub mod OneCommand
 pub mod ReadBack
 mod Stores
