@@ -3,7 +3,7 @@ use Rattle.std.proofs.Common.{◌≡◌, ℕ, inl, inr, List, [], ◌∷◌, ◌
 use Rattle.std.proofs.lemmas.List.{append_cancel_left}
 use Rattle.hash.proofs.Lasts.{All_at, one_last}
 use Rattle.texts.specs.Commands.{LevelsSpelled}
-use Rattle.texts.proofs.OneCommand.{one_tree}
+use Rattle.texts.proofs.OneMeaning.{one_tree}
 use Rattle.runs.specs.Turns.{Turn}
 use Rattle.runs.specs.Promises.{IsLevels, NoLevels}
 use Rattle.runs.specs.Laws.{AskedOnce}
