@@ -18,7 +18,7 @@ use Rattle.texts.specs.declared.command.Command.{Command}
 use Rattle.texts.specs.declared.command.Command.TheVariants.{Store, Levels, Root, Sign, Look, Power, Slot, State}
 use Rattle.texts.specs.declared.signature.ReadSignature.{ReadSignature}
 use Rattle.texts.specs.declared.signature.SignatureLines.{SignatureLines}
-use Rattle.texts.proofs.OneMeaning.{SameTree, SameCommand, read_or_refused, one_refusal}
+use Rattle.texts.proofs.OneMeaning.{SameTree, SameCommand, lines_alone, same_read, read_or_refused, one_refusal}
 use Rattle.texts.proofs.ReadBack.{one_signature, read_fits}
 use Rattle.sessions.specs.Replies.{sign_spelled, look_spelled, counts_line}
 use Rattle.sessions.specs.Sessions.{Has, power_of, refusal_or, Executed, look_answer, Says, Answered, sign_answer, bits_asked}
@@ -39,7 +39,7 @@ abbrev pub part_of : Session → Part
 part_of s = part (vec_items s.store) s.tree s.power
 
 -- sessions that have the same part
-has_same : (s r : Session) {m k : List ℕ} (t u : Tree) {p q : Option ℕ} → part m t p ≡ part k u q → Has s m t p → Has r k u q → part_of s ≡ part_of r
+pub has_same : (s r : Session) {m k : List ℕ} (t u : Tree) {p q : Option ℕ} → part m t p ≡ part k u q → Has s m t p → Has r k u q → part_of s ≡ part_of r
 has_same s r t u e (a, b, c) (x, y, z) = cc
 
 same_tree : (t u : Tree) {m : List ℕ} {p : Option ℕ} → SameTree t u → part m t p ≡ part m u p
@@ -73,20 +73,20 @@ said_same None p e a b = absurd a
 none_same : (o p : Option (String Global)) → o ≡ None → p ≡ None → option_map string_bytes o ≡ option_map string_bytes p
 none_same o p a b = cc
 
-pub answered_once : (h : Mix) (c d : Command) (s r : Session) (t : SignatureLines) (o p : Option (String Global)) → SameCommand c d → part_of s ≡ part_of r → Answered h s c t o → Answered h r d t p →
+pub answered_once : (h : Mix) (c d : Command) (s r : Session) (t u : SignatureLines) (o p : Option (String Global)) → SameCommand c d → part_of s ≡ part_of r → lines_alone t ≡ lines_alone u → Answered h s c t o → Answered h r d u p →
     option_map string_bytes o ≡ option_map string_bytes p
-answered_once h (Store v) (Store w) s r t o p same e = none_same o p
-answered_once h (Levels v) (Levels w) s r t o p same e = none_same o p
-answered_once h (Power k) (Power j) s r t o p same e = none_same o p
-answered_once h Root Root s r t o p same e = said_same o p (ap (λ (q : Part). refusal_or (tree_refusal q.levels q.bits) (hex (bytes_of (node h q.bits q.seed q.levels 0)))) e)
-answered_once h (Sign x) (Sign y) s r t o p same e =
+answered_once h (Store v) (Store w) s r t u o p same e l = none_same o p
+answered_once h (Levels v) (Levels w) s r t u o p same e l = none_same o p
+answered_once h (Power k) (Power j) s r t u o p same e l = none_same o p
+answered_once h Root Root s r t u o p same e l = said_same o p (ap (λ (q : Part). refusal_or (tree_refusal q.levels q.bits) (hex (bytes_of (node h q.bits q.seed q.levels 0)))) e)
+answered_once h (Sign x) (Sign y) s r t u o p same e l =
     said_same o p
     (ap (λ (q : Part). sign_spelled (answer q.levels q.store q.bits (power_of q.power)) (signed h q.seed q.levels (next q.store) (bits_of_text h (vec_items x) q.bits))) e
     ∙ ap (sign_answer h r) same)
-answered_once h (Look u x) (Look v y) s r t o p same e = λ a b.
+answered_once h (Look v x) (Look w y) s r t u o p same e l = λ a b.
     said_same o p
-    (look_once h s r (value_of u) (vec_items x) t a.0 b.0 e a.1 b.1 ∙ (ap (λ (w : ℕ). look_answer h r w (vec_items x) b.0) same.0 ∙ ap (λ (z : List ℕ). look_answer h r (value_of v) z b.0) same.1))
+    (look_once h s r (value_of v) (vec_items x) t a.0 b.0 e a.1 (same_read t u b.0 l b.1) ∙ (ap (λ (k : ℕ). look_answer h r k (vec_items x) b.0) same.0 ∙ ap (λ (z : List ℕ). look_answer h r (value_of w) z b.0) same.1))
     a.2 b.2
-answered_once h Slot Slot s r t o p same e = said_same o p (ap (λ (q : Part). counts_line (codes "slot") (counting q.store)) e)
-answered_once h State State s r t o p same e = said_same o p (ap (λ (q : Part). counts_line (codes "store") q.store) e)
-answered_once h c d s r t o p same e = absurd same
+answered_once h Slot Slot s r t u o p same e l = said_same o p (ap (λ (q : Part). counts_line (codes "slot") (counting q.store)) e)
+answered_once h State State s r t u o p same e l = said_same o p (ap (λ (q : Part). counts_line (codes "store") q.store) e)
+answered_once h c d s r t u o p same e l = absurd same

@@ -1,5 +1,5 @@
 -- A line is one command only, up to what the command means; and four lines are read as one signature only, or refused for one line only.
-use Rattle.std.proofs.Common.{◌≡◌, ℕ, zero, suc, ◌^◌, ◌<◌, List, ◌++◌, vec_items, codes, Err, Ok, sym, refl, ap, ◌∙◌, subst, arith}
+use Rattle.std.proofs.Common.{Bor, Result, ◌≡◌, ℕ, zero, suc, ◌^◌, ◌<◌, List, ◌++◌, vec_items, codes, Err, Ok, sym, refl, ap, ◌∙◌, subst, arith}
 use Rattle.std.proofs.lemmas.List.{append_cancel_left}
 use Rattle.hash.specs.Hex.{hex}
 use Rattle.hash.specs.Value.{worth, value_of}
@@ -10,7 +10,7 @@ use Rattle.tree.specs.declared.own.Tree.{Tree}
 use Rattle.reading.proofs.Cuts.{hex_whole, same_word}
 use Rattle.reading.proofs.Printed.{counts_told, hex_told}
 use Rattle.texts.specs.Commands.{DecimalBefore, LevelsSpelled, StoreSpelled, Spelled}
-use Rattle.texts.specs.SignatureLines.{line_after, signature_of, LinesOf, Readable, SignatureRead}
+use Rattle.texts.specs.SignatureLines.{LinesAre, line_after, signature_of, LinesOf, Readable, SignatureRead}
 use Rattle.texts.specs.declared.command.Command.{Command}
 use Rattle.texts.specs.declared.command.Command.TheVariants.{Store, Levels, Root, Sign, Look, Power, Slot, State}
 use Rattle.texts.specs.declared.signature.ReadSignature.{ReadSignature}
@@ -64,6 +64,18 @@ one_command cs (Power k) (Power j) (x, a, s) (y, b, t) = one_number (2 ^ 64) x y
 one_command cs Slot Slot a b = tt
 one_command cs State State a b = tt
 one_command cs c d a b = absurd (omega (arith, sorted cs c a, sorted cs d b))
+
+-- lines alone, wherever they stand
+abbrev pub lines_alone : SignatureLines → SignatureLines
+lines_alone t =
+    let line : Bor (List ℕ) → Bor (List ℕ) = λ b. record { ref_ptr = (0, 0); now = b.now } in
+    record { first = t.first; key = line t.key; parts = line t.parts; others = line t.others; path = line t.path }
+
+pub same_lines : (t u : SignatureLines) (n : ℕ) (ls : List (List ℕ)) → LinesAre t n ls → LinesAre u n ls → lines_alone t ≡ lines_alone u
+same_lines t u n ls (a, b, c, d, e) (v, w, x, y, z) = cc
+
+pub same_read : (t u : SignatureLines) (r : Result ReadSignature Refusal) → lines_alone t ≡ lines_alone u → SignatureRead u r → SignatureRead t r
+same_read t u r e a = subst (λ (x : SignatureLines). SignatureRead x r) (sym e) a
 
 -- each line of a signature can be read
 readable : (t : SignatureLines) (g : Signature) (k : ℕ) → LinesOf g t → Readable t k
