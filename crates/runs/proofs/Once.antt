@@ -9,9 +9,13 @@ use Rattle.runs.specs.Turns.{Turn}
 use Rattle.runs.specs.Steps.{Commanded, Unreadable, Turned, Ran}
 use Rattle.runs.specs.Laws.{AnsweredOnce}
 
+abbrev Done : ℕ → Session → List (List ℕ) → Option (List ℕ) → Session → Type 0
+Done n s [] printed s₁ = ⊥
+Done n s (line ∷ behind) printed s₁ = Commanded n s line behind printed s₁ ⊎ Unreadable n s line printed s₁
+
 -- a line and those behind it, done by sessions whose parts that matter are the same
 done_once : (n : ℕ) (s r s₁ r₁ : Session) (line : List ℕ) (behind : List (List ℕ)) (o p : Option (List ℕ)) → part_of s ≡ part_of r →
-    Commanded n s line behind o s₁ ⊎ Unreadable n s line o s₁ → Commanded n r line behind p r₁ ⊎ Unreadable n r line p r₁ → (part_of s₁ ≡ part_of r₁) × (o ≡ p)
+    Done n s (line ∷ behind) o s₁ → Done n r (line ∷ behind) p r₁ → (part_of s₁ ≡ part_of r₁) × (o ≡ p)
 done_once n s r s₁ r₁ line behind o p e (inl (c, t, x, sp, are, done, said, printed)) (inl (d, u, y, sp', are', done', said', printed')) =
     let one = one_command line c d sp sp' in
     let text = answered_once row_hash c d s r t u x y one e (same_lines t u (line_after n 1) behind are are') said said' in
@@ -20,12 +24,10 @@ done_once n s r s₁ r₁ line behind o p e (inl (c, t, x, sp, are, done, said, 
 done_once n s r s₁ r₁ line behind o p e (inr (unread, refused, kept)) (inl (c, t, x, sp, are, done, said, printed)) = absurd (unread c sp)
 done_once n s r s₁ r₁ line behind o p e (inr (unread, refused, kept)) (inr (unread', refused', kept')) = (has_same s₁ r₁ _ _ e kept kept', refused ∙ sym refused')
 
--- a turn of the same lines, by sessions whose parts that matter are the same
+-- a turn of the same lines
 turned_once : (n : ℕ) (s r s₁ r₁ : Session) (t u : Turn) → part_of s ≡ part_of r → t.typed ≡ u.typed → Turned n s t s₁ → Turned n r u r₁ → (part_of s₁ ≡ part_of r₁) × (t.printed ≡ u.printed)
-turned_once n s r s₁ r₁ t u e typed (line, behind, f, said) (line', behind', g, said') =
-    let first : line ≡ line' = cc in
-    let rest : behind ≡ behind' = cc in
-    done_once n s r s₁ r₁ line behind t.printed u.printed e said (subst (λ (cs : List ℕ). Commanded n r cs behind u.printed r₁ ⊎ Unreadable n r cs u.printed r₁) (sym first) (subst (λ (ls : List (List ℕ)). Commanded n r line' ls u.printed r₁ ⊎ Unreadable n r line' u.printed r₁) (sym rest) said'))
+turned_once n s r s₁ r₁ t u e typed (line, behind, f, done) (line', behind', g, done') =
+    done_once n s r s₁ r₁ line behind t.printed u.printed e done (subst (λ (ls : List (List ℕ)). Done n r ls u.printed r₁) (sym g ∙ (sym typed ∙ f)) done')
 
 ran_once : (ts us : List Turn) (n n₁ m₁ : ℕ) (s r s₁ r₁ : Session) → part_of s ≡ part_of r → Ran n s ts n₁ s₁ → Ran n r us m₁ r₁ → map (λ t. t.typed) ts ≡ map (λ t. t.typed) us →
     map (λ t. t.printed) ts ≡ map (λ t. t.printed) us
