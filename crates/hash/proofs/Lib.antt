@@ -2,6 +2,7 @@
 mod Carries
 pub mod Fronts
 pub mod Joined
+pub mod Lasts
 pub mod Members
 pub mod Numbers
 pub mod Rows

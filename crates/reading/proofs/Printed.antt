@@ -95,7 +95,7 @@ module _ (limit : ℕ) (low : limit ≤ 2 ^ 64) where
 digit_told : (a b : ℕ) → a < 16 → b < 16 → hex_digit a ≡ hex_digit b → a ≡ b
 digit_told a b = grind (arith, nat_tests)
 
-hex_told : (bs cs : List ℕ) → length bs ≡ length cs → ((i : ℕ) → get_or bs i 0 < 256) → ((i : ℕ) → get_or cs i 0 < 256) → hex bs ≡ hex cs → bs ≡ cs
+pub hex_told : (bs cs : List ℕ) → length bs ≡ length cs → ((i : ℕ) → get_or bs i 0 < 256) → ((i : ℕ) → get_or cs i 0 < 256) → hex bs ≡ hex cs → bs ≡ cs
 hex_told [] [] l u v e = refl
 hex_told [] (c ∷ cs) l u v e = absurd (omega arith)
 hex_told (b ∷ bs) [] l u v e = absurd (omega arith)

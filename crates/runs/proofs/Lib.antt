@@ -1,5 +1,7 @@
 -- The lemmas of this crate.
 mod Appended
+mod Asked
+mod Once
 mod Printed
 mod Progress
 mod Promised

@@ -1,4 +1,5 @@
 -- The definitions that the contracts of this crate cite.
+pub mod Laws
 pub mod Turns
 pub mod Steps
 pub mod Promises

@@ -1,6 +1,7 @@
 // Whole runs of the program: lines in, lines out.
 #![tactic(auto)]
 
+pub mod laws;
 pub mod program;
 pub mod streams;
 pub mod turns;

@@ -19,7 +19,7 @@ sort_of (Power k) = letters (codes "pow")
 sort_of Slot = letters (codes "slo")
 sort_of State = letters (codes "sta")
 
-sorted : (cs : List ℕ) (c : Command) → Spelled cs c → letters cs ≡ sort_of c
+pub sorted : (cs : List ℕ) (c : Command) → Spelled cs c → letters cs ≡ sort_of c
 sorted cs (Store v) s = ap letters s.1
 sorted cs (Levels v) s = ap letters s.1
 sorted cs Root s = ap letters s

@@ -8,6 +8,9 @@ use Rattle.reading.specs.Spelling.{WordEnd, decimal_of}
 use Rattle.reading.proofs.Cuts.{decimal_whole, cut_word, same_word}
 use Rattle.texts.specs.Commands.{StoreSpelled, DecimalBefore}
 
+pub one_number : (limit : ℕ) (cs ds : List ℕ) (u v : ℕ) → cs ≡ ds → decimal_of limit cs ≡ Some u → decimal_of limit ds ≡ Some v → u ≡ v
+one_number limit cs ds u v same e f = cc
+
 -- a decimal before a word: where it is cut, and what follows
 stops_word : (word rest : List ℕ) → get_or word 0 0 ≡ 32 → Stops (word ++ rest)
 stops_word [] rest e = absurd (omega arith)
@@ -18,10 +21,10 @@ pub before_cut : (text word : List ℕ) (r v : ℕ) (rest : List ℕ) → get_or
 before_cut text word r v rest h at b =
     let cut = cut_word text b.0 (word ++ rest) r at (decimal_whole (2 ^ 64) b.0 v b.2) (stops_word word rest h) b.1 in (ap (decimal_of (2 ^ 64)) cut.0 ∙ b.2, cut.1)
 
-pub before_same : (text word : List ℕ) (u v : ℕ) (p q : List ℕ) → get_or word 0 0 ≡ 32 → DecimalBefore text word u p → DecimalBefore text word v q → p ≡ q
+pub before_same : (text word : List ℕ) (u v : ℕ) (p q : List ℕ) → get_or word 0 0 ≡ 32 → DecimalBefore text word u p → DecimalBefore text word v q → (u ≡ v) × (p ≡ q)
 before_same text word u v p q h b d =
     let same = same_word b.0 d.0 (word ++ p) (word ++ q) (decimal_whole (2 ^ 64) b.0 u b.2) (decimal_whole (2 ^ 64) d.0 v d.2) (stops_word word p h) (stops_word word q h) (sym b.1 ∙ d.1) in
-    append_cancel_left word p q same.1
+    (one_number (2 ^ 64) b.0 d.0 u v same.0 b.2 d.2, append_cancel_left word p q same.1)
 
 pub not_both : (limit : ℕ) (cs ds : List ℕ) (v : ℕ) → decimal_of limit cs ≡ None → cs ≡ ds → decimal_of limit ds ≡ Some v → ⊥
 not_both limit cs ds v n e f = cc

@@ -2,5 +2,6 @@
 mod Commanded
 mod Cuts
 pub mod Looks
+pub mod OneMeaning
 pub mod ReadBack
 mod Stores

@@ -1,0 +1,12 @@
+// What holds of turns and runs: each statement is the contract of a function, so that the crate is proved only with its proof.
+ghost use Rattle.runs.specs.Laws.{AskedOnce, AnsweredOnce};
+
+// The levels, bits and seed that are asked with are determined by the turns before.
+pub fn asked_once()
+    ensures { AskedOnce }
+{}
+
+// What is answered is determined by the lines.
+pub fn answered_once()
+    ensures { AnsweredOnce }
+{}
