@@ -1,13 +1,14 @@
 -- What is answered depends on the lines alone.
-use Rattle.std.proofs.Common.{◌≡◌, ℕ, ◌⊎◌, inl, inr, List, [], ◌∷◌, map, length, Option, sym, refl, ◌∙◌, subst}
+use Rattle.std.proofs.Common.{◌≡◌, ℕ, ◌⊎◌, inl, inr, List, [], ◌∷◌, map, length, Option, sym, refl, ◌∙◌, subst, append-nil}
+use Rattle.std.specs.List.{flat_map}
 use Rattle.sha256.specs.Rows.{row_hash}
 use Rattle.texts.specs.SignatureLines.{line_after}
 use Rattle.texts.proofs.OneMeaning.{same_lines, one_command}
 use Rattle.sessions.specs.declared.session.Session.{Session}
 use Rattle.sessions.proofs.Alike.{part_of, has_same, executed_once, answered_once}
-use Rattle.runs.specs.Turns.{Turn}
+use Rattle.runs.specs.Turns.{Turn, bytes_printed}
 use Rattle.runs.specs.Steps.{Commanded, Unreadable, Turned, Ran}
-use Rattle.runs.specs.Laws.{AnsweredOnce}
+use Rattle.runs.specs.Laws.{AnsweredOnce, PrintedOnce}
 
 abbrev Done : ℕ → Session → List (List ℕ) → Option (List ℕ) → Session → Type 0
 Done n s [] printed s₁ = ⊥
@@ -46,3 +47,19 @@ ran_once (t ∷ ts) (u ∷ us) n n₁ m₁ s r s₁ r₁ e (s₂, turn, ran) (r�
 pub answered_once_lem : AnsweredOnce
 answered_once_lem ts us s r s₁ r₁ n₁ m₁ (store, levels, bits, seed, power) (store', levels', bits', seed', power') a b =
     ran_once ts us 0 n₁ m₁ s r s₁ r₁ (cc) a b
+
+shown_alike : (ts us : List Turn) → map (λ t. t.printed) ts ≡ map (λ t. t.printed) us → flat_map (λ t. bytes_printed t.printed) ts ≡ flat_map (λ t. bytes_printed t.printed) us
+shown_alike [] [] e = refl
+shown_alike [] (u ∷ us) e = cc
+shown_alike (t ∷ ts) [] e = cc
+shown_alike (t ∷ ts) (u ∷ us) e =
+    let first : t.printed ≡ u.printed = cc in
+    let rest = shown_alike ts us cc in cc
+
+pub printed_once_lem : PrintedOnce
+printed_once_lem input p q ts us a b =
+    let same = sym (append-nil (map (λ t. t.typed) ts)) ∙ (sym a.typed ∙ (b.typed ∙ append-nil (map (λ t. t.typed) us))) in
+    let x = a.answered in
+    let y = b.answered in
+    let shown = shown_alike ts us (answered_once_lem ts us x.0 y.0 x.2 y.2 x.1 y.1 x.3 y.3 x.4 y.4 same) in
+    sym (append-nil p) ∙ (sym a.shown ∙ (shown ∙ (b.shown ∙ append-nil q)))

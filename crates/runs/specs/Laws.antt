@@ -1,9 +1,10 @@
 -- What holds of the definitions of turns and runs. Assumes nothing: these are statements, each proved by a function whose contract it is.
-use Rattle.std.specs.Prelude.{◌≡◌, ℕ, List, map}
+use Rattle.std.specs.Prelude.{◌≡◌, ℕ, List, [], map}
 use Rattle.sessions.specs.declared.session.Session.{Session}
 use Rattle.runs.specs.Turns.{Turn}
 use Rattle.runs.specs.Steps.{Ran, Fresh}
 use Rattle.runs.specs.Promises.{AskedWith}
+use Rattle.runs.specs.Runs.{Run}
 
 -- turns say what is asked with after them: there is one answer only
 abbrev pub AskedOnce : Type 0
@@ -14,3 +15,7 @@ abbrev pub AnsweredOnce : Type 0
 AnsweredOnce =
     (ts us : List Turn) (s r s₁ r₁ : Session) (n₁ m₁ : ℕ) → Fresh s → Fresh r → Ran 0 s ts n₁ s₁ → Ran 0 r us m₁ r₁ → map (λ t. t.typed) ts ≡ map (λ t. t.typed) us →
     map (λ t. t.printed) ts ≡ map (λ t. t.printed) us
+
+-- so the bytes that a whole run prints are determined by those that it reads
+abbrev pub PrintedOnce : Type 0
+PrintedOnce = (input p q : List ℕ) (ts us : List Turn) → Run input p ts [] [] → Run input q us [] [] → p ≡ q
