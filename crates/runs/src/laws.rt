@@ -1,5 +1,5 @@
 // What holds of turns and runs: each statement is the contract of a function, so that the crate is proved only with its proof.
-ghost use Rattle.runs.specs.Laws.{AskedOnce, AnsweredOnce};
+ghost use Rattle.runs.specs.Laws.{AskedOnce, AnsweredOnce, PrintedOnce};
 
 // The levels, bits and seed that are asked with are determined by the turns before.
 pub fn asked_once()
@@ -9,4 +9,9 @@ pub fn asked_once()
 // What is answered is determined by the lines.
 pub fn answered_once()
     ensures { AnsweredOnce }
+{}
+
+// What is printed is determined by the input, as far as it is printed.
+pub fn printed_once()
+    ensures { PrintedOnce }
 {}
