@@ -1,13 +1,15 @@
 -- What is answered depends on the lines alone.
-use Rattle.std.proofs.Common.{◌≡◌, ℕ, ◌⊎◌, inl, inr, List, [], ◌∷◌, map, length, Option, sym, refl, ◌∙◌, subst, append-nil}
+use Rattle.std.proofs.Common.{◌≡◌, ℕ, ◌⊎◌, inl, inr, List, [], ◌∷◌, ◌++◌, map, length, drop, Option, sym, refl, ap, ◌∙◌, subst, arith, append_assoc}
 use Rattle.std.specs.List.{flat_map}
+use Rattle.std.proofs.lemmas.Grind.{flat_map-append}
+use Rattle.std.proofs.lemmas.List.{append-nil, drop_all, length-map}
 use Rattle.sha256.specs.Rows.{row_hash}
 use Rattle.texts.specs.SignatureLines.{line_after}
 use Rattle.texts.proofs.OneMeaning.{same_lines, one_command}
 use Rattle.sessions.specs.declared.session.Session.{Session}
 use Rattle.sessions.proofs.Alike.{part_of, has_same, executed_once, answered_once}
 use Rattle.runs.specs.Turns.{Turn, bytes_printed}
-use Rattle.runs.specs.Steps.{Commanded, Unreadable, Turned, Ran}
+use Rattle.runs.specs.Steps.{Commanded, Unreadable, Turned, Ran, Fresh}
 use Rattle.runs.specs.Laws.{AnsweredOnce, PrintedOnce}
 
 abbrev Done : ℕ → Session → List (List ℕ) → Option (List ℕ) → Session → Type 0
@@ -25,41 +27,47 @@ done_once n s r s₁ r₁ line behind o p e (inl (c, t, x, sp, are, done, said, 
 done_once n s r s₁ r₁ line behind o p e (inr (unread, refused, kept)) (inl (c, t, x, sp, are, done, said, printed)) = absurd (unread c sp)
 done_once n s r s₁ r₁ line behind o p e (inr (unread, refused, kept)) (inr (unread', refused', kept')) = (has_same s₁ r₁ _ _ e kept kept', refused ∙ sym refused')
 
+same_turn : (t u : Turn) → t.typed ≡ u.typed → t.printed ≡ u.printed → t ≡ u
+same_turn t u e f = ap (λ (ls : List (List ℕ)). record t { typed = ls }) e ∙ ap (λ (o : Option (List ℕ)). record u { printed = o }) f
+
 -- a turn of the same lines
 turned_once : (n : ℕ) (s r s₁ r₁ : Session) (t u : Turn) → part_of s ≡ part_of r → t.typed ≡ u.typed → Turned n s t s₁ → Turned n r u r₁ → (part_of s₁ ≡ part_of r₁) × (t.printed ≡ u.printed)
 turned_once n s r s₁ r₁ t u e typed (line, behind, f, done) (line', behind', g, done') =
     done_once n s r s₁ r₁ line behind t.printed u.printed e done (subst (λ (ls : List (List ℕ)). Done n r ls u.printed r₁) (sym g ∙ (sym typed ∙ f)) done')
 
-ran_once : (ts us : List Turn) (n n₁ m₁ : ℕ) (s r s₁ r₁ : Session) → part_of s ≡ part_of r → Ran n s ts n₁ s₁ → Ran n r us m₁ r₁ → map (λ t. t.typed) ts ≡ map (λ t. t.typed) us →
-    map (λ t. t.printed) ts ≡ map (λ t. t.printed) us
+-- what is answered does not depend on the lines that follow: a run on more lines makes the same turns first
+ran_on : (ts us : List Turn) (n n₁ m₁ : ℕ) (s r s₁ r₁ : Session) (more : List (List (List ℕ))) → part_of s ≡ part_of r → Ran n s ts n₁ s₁ → Ran n r us m₁ r₁ →
+    map (λ t. t.typed) ts ++ more ≡ map (λ t. t.typed) us → ts ++ drop (length ts) us ≡ us
 unfolding Ran
-ran_once [] [] n n₁ m₁ s r s₁ r₁ e a b typed = refl
-ran_once [] (u ∷ us) n n₁ m₁ s r s₁ r₁ e a b typed = cc
-ran_once (t ∷ ts) [] n n₁ m₁ s r s₁ r₁ e a b typed = cc
-ran_once (t ∷ ts) (u ∷ us) n n₁ m₁ s r s₁ r₁ e (s₂, turn, ran) (r₂, turn', ran') typed =
+ran_on [] us n n₁ m₁ s r s₁ r₁ more e a b typed = refl
+ran_on (t ∷ ts) [] n n₁ m₁ s r s₁ r₁ more e a b typed = cc
+ran_on (t ∷ ts) (u ∷ us) n n₁ m₁ s r s₁ r₁ more e (s₂, turn, ran) (r₂, turn', ran') typed =
     let first : t.typed ≡ u.typed = cc in
-    let rest : map (λ t. t.typed) ts ≡ map (λ t. t.typed) us = cc in
+    let rest : map (λ t. t.typed) ts ++ more ≡ map (λ t. t.typed) us = cc in
     let one = turned_once n s r s₂ r₂ t u e first turn turn' in
-    let more = ran_once ts us (line_after n (length t.typed)) n₁ m₁ s₂ r₂ s₁ r₁ one.0 ran (subst (λ (ls : List (List ℕ)). Ran (line_after n (length ls)) r₂ us m₁ r₁) (sym first) ran') rest in
-    let same = one.1 in
+    let same = same_turn t u first one.1 in
+    let others = ran_on ts us (line_after n (length t.typed)) n₁ m₁ s₂ r₂ s₁ r₁ more one.0 ran (subst (λ (x : Turn). Ran (line_after n (length x.typed)) r₂ us m₁ r₁) (sym same) ran') rest in
     cc
 
-pub answered_once_lem : AnsweredOnce
-answered_once_lem ts us s r s₁ r₁ n₁ m₁ (store, levels, bits, seed, power) (store', levels', bits', seed', power') a b =
-    ran_once ts us 0 n₁ m₁ s r s₁ r₁ (cc) a b
+-- from the start
+begun_on : (ts us : List Turn) (n₁ m₁ : ℕ) (s r s₁ r₁ : Session) (more : List (List (List ℕ))) → Fresh s → Fresh r → Ran 0 s ts n₁ s₁ → Ran 0 r us m₁ r₁ →
+    map (λ t. t.typed) ts ++ more ≡ map (λ t. t.typed) us → ts ++ drop (length ts) us ≡ us
+begun_on ts us n₁ m₁ s r s₁ r₁ more (store, levels, bits, seed, power) (store', levels', bits', seed', power') = ran_on ts us 0 n₁ m₁ s r s₁ r₁ more (cc)
 
-shown_alike : (ts us : List Turn) → map (λ t. t.printed) ts ≡ map (λ t. t.printed) us → flat_map (λ t. bytes_printed t.printed) ts ≡ flat_map (λ t. bytes_printed t.printed) us
-shown_alike [] [] e = refl
-shown_alike [] (u ∷ us) e = cc
-shown_alike (t ∷ ts) [] e = cc
-shown_alike (t ∷ ts) (u ∷ us) e =
-    let first : t.printed ≡ u.printed = cc in
-    let rest = shown_alike ts us cc in cc
+pub answered_once_lem : AnsweredOnce
+answered_once_lem ts us s r s₁ r₁ n₁ m₁ fresh fresh' a b typed =
+    let on = begun_on ts us n₁ m₁ s r s₁ r₁ [] fresh fresh' a b (append-nil _ ∙ typed) in
+    let sizes = ap length typed in
+    let none = drop_all (length ts) us (omega (arith, sizes, length-map ts (λ t. t.typed), length-map us (λ t. t.typed))) in
+    sym (append-nil ts) ∙ (ap (λ (x : List Turn). ts ++ x) (sym none) ∙ on)
 
 pub printed_once_lem : PrintedOnce
-printed_once_lem input p q ts us a b =
-    let same = sym (append-nil (map (λ t. t.typed) ts)) ∙ (sym a.typed ∙ (b.typed ∙ append-nil (map (λ t. t.typed) us))) in
-    let x = a.answered in
-    let y = b.answered in
-    let shown = shown_alike ts us (answered_once_lem ts us x.0 y.0 x.2 y.2 x.1 y.1 x.3 y.3 x.4 y.4 same) in
-    sym (append-nil p) ∙ (sym a.shown ∙ (shown ∙ (b.shown ∙ append-nil q)))
+printed_once_lem input p q left ts us more run cut =
+    let typed = sym cut.typed ∙ (run.typed ∙ append-nil _) in
+    let (s, n, s₁, fresh, ran) = cut.answered in
+    let (r, m, r₁, fresh', ran') = run.answered in
+    let on = begun_on us ts n m s r s₁ r₁ more fresh fresh' ran ran' typed in
+    let bytes : Turn → List ℕ = λ t. bytes_printed t.printed in
+    let rest = flat_map bytes (drop (length us) ts) in
+    let all = sym (append-nil p) ∙ (sym run.shown ∙ (ap (flat_map bytes) (sym on) ∙ flat_map-append bytes us (drop (length us) ts))) in
+    (left ++ rest, all ∙ (ap (λ (cs : List ℕ). cs ++ rest) cut.shown ∙ append_assoc q left rest))

@@ -11,7 +11,7 @@ pub fn answered_once()
     ensures { AnsweredOnce }
 {}
 
-// What a whole run prints is determined by what it reads.
+// What is printed is determined by the input, as far as it is printed.
 pub fn printed_once()
     ensures { PrintedOnce }
 {}

@@ -45,6 +45,7 @@ has_same s r t u e (a, b, c) (x, y, z) = cc
 same_tree : (t u : Tree) {m : List ℕ} {p : Option ℕ} → SameTree t u → part m t p ≡ part m u p
 same_tree t u (a, b, c) = cc
 
+-- a command leaves one such part
 pub executed_once : (c d : Command) (s r s₁ r₁ : Session) → SameCommand c d → part_of s ≡ part_of r → Executed s c s₁ → Executed r d r₁ → part_of s₁ ≡ part_of r₁
 executed_once (Store v) (Store w) s r s₁ r₁ same e = has_same s₁ r₁ _ _ (ap (λ (p : Part). record p { store = vec_items v }) e ∙ ap (λ (m : List ℕ). part m r.tree r.power) same)
 executed_once (Levels v) (Levels w) s r s₁ r₁ same e = has_same s₁ r₁ _ _ (ap (λ (p : Part). part p.store v p.power) e ∙ same_tree v w same)
@@ -56,6 +57,7 @@ executed_once Slot Slot s r s₁ r₁ same e = has_same s₁ r₁ _ _ e
 executed_once State State s r s₁ r₁ same e = has_same s₁ r₁ _ _ e
 executed_once c d s r s₁ r₁ same e = absurd same
 
+-- and is answered once
 look_once : (h : Mix) (s r : Session) (v : ℕ) (x : List ℕ) (t : SignatureLines) (g k : Result ReadSignature Refusal) → part_of s ≡ part_of r → SignatureRead t g → SignatureRead t k →
     look_answer h s v x g ≡ look_answer h r v x k
 look_once h s r v x t (Ok g) (Ok k) e a b =

@@ -1,5 +1,5 @@
 -- A line is one command only, up to what the command means; and four lines are read as one signature only, or refused for one line only.
-use Rattle.std.proofs.Common.{Bor, Result, ◌≡◌, ℕ, zero, suc, ◌^◌, ◌<◌, List, ◌++◌, vec_items, codes, Err, Ok, sym, refl, ap, ◌∙◌, subst, arith}
+use Rattle.std.proofs.Common.{◌≡◌, ℕ, zero, suc, ◌^◌, ◌<◌, List, ◌++◌, vec_items, Ok, Err, Bor, Result, codes, sym, refl, ap, ◌∙◌, subst, arith}
 use Rattle.std.proofs.lemmas.List.{append_cancel_left}
 use Rattle.hash.specs.Hex.{hex}
 use Rattle.hash.specs.Value.{worth, value_of}
@@ -7,6 +7,7 @@ use Rattle.hash.specs.declared.number.Number.{Number}
 use Rattle.keys.specs.declared.refusal.Refusal.{Refusal}
 use Rattle.keys.specs.declared.refusal.Refusal.TheVariants.{Line}
 use Rattle.tree.specs.declared.own.Tree.{Tree}
+use Rattle.signatures.specs.Signatures.{Signature}
 use Rattle.reading.proofs.Cuts.{hex_whole, same_word}
 use Rattle.reading.proofs.Printed.{counts_told, hex_told}
 use Rattle.texts.specs.Commands.{DecimalBefore, LevelsSpelled, StoreSpelled, Spelled}
@@ -15,7 +16,6 @@ use Rattle.texts.specs.declared.command.Command.{Command}
 use Rattle.texts.specs.declared.command.Command.TheVariants.{Store, Levels, Root, Sign, Look, Power, Slot, State}
 use Rattle.texts.specs.declared.signature.ReadSignature.{ReadSignature}
 use Rattle.texts.specs.declared.signature.SignatureLines.{SignatureLines}
-use Rattle.signatures.specs.Signatures.{Signature}
 use Rattle.texts.proofs.Commanded.{sorted}
 use Rattle.texts.proofs.Cuts.{one_number, before_same, stored_words}
 
