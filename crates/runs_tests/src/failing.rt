@@ -1,18 +1,47 @@
 // Input that fails and output that is full: an error, and nothing else is printed.
 use runs::run;
-use std::alloc::Global;
 use std::io;
-use std::io::{BufReader, ErrorKind, Read};
-use std::process::Abort;
+use std::io::{BufReader, ErrorKind, Read, Write};
 use std::test::Fail;
 
-// An input of which every read fails.
+// An input that is handed out byte by byte, and fails behind the last one.
 #[derive(Drop)]
-struct Broken;
+struct Broken<'a> {
+    left: &'a [u8],
+}
 
-impl Read for Broken {
-    fn read(&mut self, _buf: &mut [u8]) -> io::Result<usize> {
-        Err(io::Error::new(ErrorKind::BrokenPipe, "no input"))
+impl Read for Broken<'_> {
+    fn read(&mut self, buf: &mut [u8]) -> io::Result<usize> {
+        let (Some((byte, left)), Some(there)) = (self.left.split_first(), buf.first_mut()) else {
+            return Err(io::Error::new(ErrorKind::BrokenPipe, "no more input"));
+        };
+        *there = *byte;
+        self.left = left;
+        Ok(1)
+    }
+}
+
+// An output that takes a byte at a time, and has room for so many.
+#[derive(Drop)]
+struct Narrow {
+    taken: Vec<u8>,
+    room: usize,
+}
+
+impl Write for Narrow {
+    fn write(&mut self, buf: &[u8]) -> io::Result<usize> {
+        let Some(byte) = buf.first() else {
+            return Ok(0);
+        };
+        if self.taken.len() >= self.room {
+            return Err(io::Error::new(ErrorKind::StorageFull, "no more room"));
+        }
+        self.taken.push(*byte)?;
+        Ok(1)
+    }
+
+    fn flush(&mut self) -> io::Result<()> {
+        Ok(())
     }
 }
 
@@ -34,24 +63,22 @@ const BROKEN: &'static [(&'static [u8], &'static str)] = &[
 
 #[test]
 fn input_that_fails(rt: HostRuntime) -> Result<(), Fail> {
-    let heap = rt.alloc();
-    for (input, expected) in BROKEN {
-        let broken = BufReader::with_capacity(heap, 8, Broken)?;
-        let reader = input.chain(broken);
-        let mut output = Vec::new(heap);
-        let result = run(heap, reader, &mut output);
+    for (left, expected) in BROKEN {
+        let reader = BufReader::with_capacity(rt.alloc(), 8, Broken { left })?;
+        let mut output = Vec::new(rt.alloc());
+        let result = run(rt.alloc(), reader, &mut output);
         let kind = result.err().map(|error| error.kind());
         assert_eq!(rt;
             kind,
             Some(ErrorKind::BrokenPipe),
             "{}",
-            input.escape_ascii()
+            left.escape_ascii()
         );
         assert_eq!(rt;
             output.as_slice(),
             expected.as_bytes(),
             "{}",
-            input.escape_ascii()
+            left.escape_ascii()
         );
     }
     Ok(())
@@ -74,21 +101,15 @@ const PRINTED: &'static [u8] = b"store 0 3 0 3\n\
     slot 0 3\n\
     5 8\n";
 
-fn compare_full(rt: &impl Abort, heap: Global, room: usize) -> Result<(), Fail> {
-    let mut output = vec![in heap; 0; room]?;
-    let reader = TYPED;
-    let mut writer = output.as_mut_slice();
-    let result = run(heap, reader, &mut writer);
-    let front = PRINTED.get(..room).unwrap_or(PRINTED);
-    assert_eq!(rt; result.is_ok(), room >= PRINTED.len(), "room for {room}");
-    assert_eq!(rt; output.as_slice(), front, "room for {room}");
-    Ok(())
-}
-
 #[test]
-fn output_that_is_full(rt: HostRuntime) -> Result<(), Fail> {
+fn output_that_fails(rt: HostRuntime) -> Result<(), Fail> {
     for room in 0..=PRINTED.len() {
-        compare_full(&rt, rt.alloc(), room)?;
+        let taken = Vec::new(rt.alloc());
+        let reader = TYPED;
+        let mut writer = Narrow { taken, room };
+        let result = run(rt.alloc(), reader, &mut writer);
+        assert_eq!(rt; result.is_ok(), room == PRINTED.len(), "room for {room}");
+        assert_eq!(rt; writer.taken.as_slice(), &PRINTED[..room]);
     }
     Ok(())
 }

@@ -1,8 +1,6 @@
 // A `look` and the four lines behind it: cut short by the end of the input, and each line spoiled in turn.
-ghost use Rattle.std.specs.Prelude.{◌<◌};
-
 use crate::printed::compare;
-use std::alloc::Global;
+use std::alloc::{AllocError, Global};
 use std::process::Abort;
 use std::test::Fail;
 
@@ -48,21 +46,181 @@ fn looks_that_are_cut_short(rt: HostRuntime) -> Result<(), Fail> {
     Ok(())
 }
 
-// A `look` that can be read, and lines that would be commands in the place of each of its lines.
-const READABLE: [&'static [u8]; 5] = [
-    b"look 0000000000000000000000000000000000000000000000000000000000000000 a\n",
-    b"key 0\n",
-    b"parts\n",
-    b"others\n",
-    b"path\n",
-];
+// A place in a `look`: what stands before and behind it, the lines that cannot be read there and their answer, and those that can and what is answered then. What stands behind it would be commands.
+#[derive(Clone, Copy)]
+struct Place {
+    before: &'static [u8],
+    behind: &'static [u8],
+    spoiled: &'static [u8],
+    refusal: &'static str,
+    read: &'static [u8],
+    answer: &'static str,
+}
 
-const COMMANDS: [&'static [u8]; 5] = [
-    b"look\n",
-    b"store 9 66 9 66\n",
-    b"levels 1 bits 1 seed 1\n",
-    b"power 2\n",
-    b"sign a deed\n",
+// Behind the word of a line of numbers.
+const SPOILED_NUMBERS: &'static [u8] = b"\x20
+ \x20
+\t
+\r
+\0
+\xff
+s
+ 0
+ a
+0000000000000000000000000000000000000000000000000000000000000000
+  0000000000000000000000000000000000000000000000000000000000000000
+\t0000000000000000000000000000000000000000000000000000000000000000
+ 0000000000000000000000000000000000000000000000000000000000000000\x20
+ 0000000000000000000000000000000000000000000000000000000000000000\r
+ 0000000000000000000000000000000000000000000000000000000000000000\0
+ 000000000000000000000000000000000000000000000000000000000000000
+ 00000000000000000000000000000000000000000000000000000000000000000
+ 000000000000000000000000000000000000000000000000000000000000000A
+ 000000000000000000000000000000000000000000000000000000000000000g
+ 000000000000000000000000000000000000000000000000000000000000000/
+ 000000000000000000000000000000000000000000000000000000000000000:
+ 000000000000000000000000000000000000000000000000000000000000000`
+ 000000000000000000000000000000000000000000000000000000000000000\xff
+ +000000000000000000000000000000000000000000000000000000000000000
+ 0x00000000000000000000000000000000000000000000000000000000000000
+ 0000000000000000000000000000000000000000000000000000000000000000 1
+ 0000000000000000000000000000000000000000000000000000000000000000  0000000000000000000000000000000000000000000000000000000000000000
+ 0000000000000000000000000000000000000000000000000000000000000000,0000000000000000000000000000000000000000000000000000000000000000
+ 00000000000000000000000000000000000000000000000000000000000000000000000000000000000000000000000000000000000000000000000000000000";
+
+const NUMBERS: &'static [u8] = b"
+ ffffffffffffffffffffffffffffffffffffffffffffffffffffffffffffffff
+ 0123456789abcdef0123456789abcdef0123456789abcdef0123456789abcdef 0000000000000000000000000000000000000000000000000000000000000000";
+
+const PLACES: [Place; 8] = [
+    Place {
+        before: b"",
+        behind: b"\nstore 9 66 9 66\nlevels 1 bits 1 seed 1\npower 2\nsign a deed\n",
+        spoiled: b"look
+look\x20
+look a
+look a deed
+look \xff
+look \0
+look look
+look 0000000000000000000000000000000000000000000000000000000000000000
+look  0000000000000000000000000000000000000000000000000000000000000000 a
+look 0000000000000000000000000000000000000000000000000000000000000000\ta
+look 000000000000000000000000000000000000000000000000000000000000000 a
+look 00000000000000000000000000000000000000000000000000000000000000000 a
+look 000000000000000000000000000000000000000000000000000000000000000A a
+look 000000000000000000000000000000000000000000000000000000000000000g a
+look 000000000000000000000000000000000000000000000000000000000000000: a
+look 000000000000000000000000000000000000000000000000000000000000000` a
+look +000000000000000000000000000000000000000000000000000000000000000 a
+look 0x00000000000000000000000000000000000000000000000000000000000000 a
+look 000000000000000000000000000000000000000000000000000000000000000\xff a",
+        refusal: "5 3",
+        read: b"look 0000000000000000000000000000000000000000000000000000000000000000\x20
+look 0000000000000000000000000000000000000000000000000000000000000000  a
+look 0123456789abcdef0123456789abcdef0123456789abcdef0123456789abcdef \xff\0\r",
+        answer: "5 4",
+    },
+    Place {
+        before: b"look 0000000000000000000000000000000000000000000000000000000000000000 a\n",
+        behind: b"\nlevels 1 bits 1 seed 1\npower 2\nsign a deed\n",
+        spoiled: b"
+key
+key\x20
+key  0
+key 0\x20
+ key 0
+key\t0
+key 0\r
+key 0\0
+key \xff
+key0
+keys 0
+Key 0
+KEY 0
+key +0
+key -0
+key 0 1
+key a
+key 18446744073709551616
+key 99999999999999999999999
+parts
+state
+look
+look 0000000000000000000000000000000000000000000000000000000000000000 a",
+        refusal: "5 4",
+        read: b"key 007
+key 18446744073709551615
+key 00000000000000000000000000000000",
+        answer: "5 5",
+    },
+    Place {
+        before: b"look 0000000000000000000000000000000000000000000000000000000000000000 a\nkey 0\n",
+        behind: b"\npower 2\nsign a deed\n",
+        spoiled: b"
+part
+ parts
+Parts
+others
+path
+key 0
+look",
+        refusal: "5 5",
+        read: b"parts",
+        answer: "5 6",
+    },
+    Place {
+        before: b"look 0000000000000000000000000000000000000000000000000000000000000000 a\nkey 0\nparts\n",
+        behind: b"\nsign a deed\n",
+        spoiled: b"
+other
+ others
+Others
+parts
+path
+look",
+        refusal: "5 6",
+        read: b"others",
+        answer: "5 7",
+    },
+    Place {
+        before: b"look 0000000000000000000000000000000000000000000000000000000000000000 a\nkey 0\nparts\nothers\n",
+        behind: b"\n",
+        spoiled: b"
+pat
+ path
+Path
+parts
+others
+look",
+        refusal: "5 7",
+        read: b"path",
+        answer: "no",
+    },
+    Place {
+        before: b"look 0000000000000000000000000000000000000000000000000000000000000000 a\nkey 0\nparts",
+        behind: b"\npower 2\nsign a deed\n",
+        spoiled: SPOILED_NUMBERS,
+        refusal: "5 5",
+        read: NUMBERS,
+        answer: "5 6",
+    },
+    Place {
+        before: b"look 0000000000000000000000000000000000000000000000000000000000000000 a\nkey 0\nparts\nothers",
+        behind: b"\nsign a deed\n",
+        spoiled: SPOILED_NUMBERS,
+        refusal: "5 6",
+        read: NUMBERS,
+        answer: "5 7",
+    },
+    Place {
+        before: b"look 0000000000000000000000000000000000000000000000000000000000000000 a\nkey 0\nparts\nothers\npath",
+        behind: b"\n",
+        spoiled: SPOILED_NUMBERS,
+        refusal: "5 7",
+        read: NUMBERS,
+        answer: "no",
+    },
 ];
 
 const BEFORE: &'static [u8] = b"store 0 3 0 3\n\
@@ -81,237 +239,30 @@ const PRINTED: &'static str = "\n\
     cut\n\
     store 1 3 0 3\n";
 
-// A `look` of which the line of that number is this one, with what can be read before it, and commands behind it.
-fn compare_with(
-    rt: &impl Abort,
-    heap: Global,
-    number: usize,
-    line: &[u8],
-    answer: &str,
-) -> Result<(), Fail>
-    requires { number < 5 }
-{
-    let mut input = BEFORE.to_vec(heap)?;
-    for before in &READABLE[..number] {
-        input.extend_from_slice(before)?;
-    }
-    input.extend_from_slice(line)?;
-    input.push(b'\n')?;
-    for behind in &COMMANDS[number + 1..] {
-        input.extend_from_slice(behind)?;
-    }
-    input.extend_from_slice(AFTER)?;
-    let expected = [answer, PRINTED].concat(heap)?;
-    compare(rt, heap, &input, &expected)
+fn typed(heap: Global, before: &[u8], line: &[u8], behind: &[u8]) -> Result<Vec<u8>, AllocError> {
+    [BEFORE, before, line, behind, AFTER].concat(heap)
 }
 
-// In the place of which line which one is put, and the answer: its own number where it cannot be read, or else that of the line behind it.
-const LINES: &'static [(usize, &'static [u8], &'static str)] = &[
-    (0, b"look", "5 3"),
-    (0, b"look ", "5 3"),
-    (0, b"look a", "5 3"),
-    (0, b"look a deed", "5 3"),
-    (0, b"look \xff", "5 3"),
-    (0, b"look \0", "5 3"),
-    (0, b"look look", "5 3"),
-    (
-        0,
-        b"look 0000000000000000000000000000000000000000000000000000000000000000",
-        "5 3",
-    ),
-    (
-        0,
-        b"look  0000000000000000000000000000000000000000000000000000000000000000 a",
-        "5 3",
-    ),
-    (
-        0,
-        b"look 0000000000000000000000000000000000000000000000000000000000000000\ta",
-        "5 3",
-    ),
-    (
-        0,
-        b"look 000000000000000000000000000000000000000000000000000000000000000 a",
-        "5 3",
-    ),
-    (
-        0,
-        b"look 00000000000000000000000000000000000000000000000000000000000000000 a",
-        "5 3",
-    ),
-    (
-        0,
-        b"look 000000000000000000000000000000000000000000000000000000000000000A a",
-        "5 3",
-    ),
-    (
-        0,
-        b"look 000000000000000000000000000000000000000000000000000000000000000g a",
-        "5 3",
-    ),
-    (
-        0,
-        b"look 000000000000000000000000000000000000000000000000000000000000000: a",
-        "5 3",
-    ),
-    (
-        0,
-        b"look 000000000000000000000000000000000000000000000000000000000000000` a",
-        "5 3",
-    ),
-    (
-        0,
-        b"look +000000000000000000000000000000000000000000000000000000000000000 a",
-        "5 3",
-    ),
-    (
-        0,
-        b"look 0x00000000000000000000000000000000000000000000000000000000000000 a",
-        "5 3",
-    ),
-    (
-        0,
-        b"look 000000000000000000000000000000000000000000000000000000000000000\xff a",
-        "5 3",
-    ),
-    // texts of any bytes
-    (
-        0,
-        b"look 0000000000000000000000000000000000000000000000000000000000000000 ",
-        "5 4",
-    ),
-    (
-        0,
-        b"look 0000000000000000000000000000000000000000000000000000000000000000  a",
-        "5 4",
-    ),
-    (
-        0,
-        b"look 0123456789abcdef0123456789abcdef0123456789abcdef0123456789abcdef \xff\0\r",
-        "5 4",
-    ),
-    (1, b"", "5 4"),
-    (1, b"key", "5 4"),
-    (1, b"key ", "5 4"),
-    (1, b"key  0", "5 4"),
-    (1, b"key 0 ", "5 4"),
-    (1, b" key 0", "5 4"),
-    (1, b"key\t0", "5 4"),
-    (1, b"key 0\r", "5 4"),
-    (1, b"key 0\0", "5 4"),
-    (1, b"key \xff", "5 4"),
-    (1, b"key0", "5 4"),
-    (1, b"keys 0", "5 4"),
-    (1, b"Key 0", "5 4"),
-    (1, b"KEY 0", "5 4"),
-    (1, b"key +0", "5 4"),
-    (1, b"key -0", "5 4"),
-    (1, b"key 0 1", "5 4"),
-    (1, b"key a", "5 4"),
-    (1, b"key 18446744073709551616", "5 4"),
-    (1, b"key 99999999999999999999999", "5 4"),
-    (1, b"parts", "5 4"),
-    (1, b"state", "5 4"),
-    (1, b"look", "5 4"),
-    (
-        1,
-        b"look 0000000000000000000000000000000000000000000000000000000000000000 a",
-        "5 4",
-    ),
-    (1, b"key 007", "5 5"),
-    (1, b"key 18446744073709551615", "5 5"),
-    (1, b"key 00000000000000000000000000000000", "5 5"),
-    (2, b"", "5 5"),
-    (2, b"part", "5 5"),
-    (2, b" parts", "5 5"),
-    (2, b"Parts", "5 5"),
-    (2, b"others", "5 5"),
-    (2, b"path", "5 5"),
-    (2, b"key 0", "5 5"),
-    (2, b"look", "5 5"),
-    (3, b"", "5 6"),
-    (3, b"other", "5 6"),
-    (3, b" others", "5 6"),
-    (3, b"Others", "5 6"),
-    (3, b"parts", "5 6"),
-    (3, b"path", "5 6"),
-    (3, b"look", "5 6"),
-    (4, b"", "5 7"),
-    (4, b"pat", "5 7"),
-    (4, b" path", "5 7"),
-    (4, b"Path", "5 7"),
-    (4, b"parts", "5 7"),
-    (4, b"others", "5 7"),
-    (4, b"look", "5 7"),
-    (4, b"path", "no"),
-];
-
-#[test]
-fn looks_of_which_a_line_is_spoiled(rt: HostRuntime) -> Result<(), Fail> {
-    for (number, line, answer) in LINES {
-        assert!(rt; *number < 5);
-        compare_with(&rt, rt.alloc(), *number, line, answer)?;
+fn compare_each(
+    rt: &impl Abort,
+    heap: Global,
+    place: Place,
+    lines: &[u8],
+    answer: &str,
+) -> Result<(), Fail> {
+    let expected = [answer, PRINTED].concat(heap)?;
+    for line in lines.split(|byte| *byte == b'\n') {
+        let input = typed(heap, place.before, line, place.behind)?;
+        compare(rt, heap, &input, &expected)?;
     }
     Ok(())
 }
 
-// The lines of numbers: where they stand, their words, and the answers where they cannot be read, and where they can.
-const ROWS: [(usize, &'static [u8], &'static str, &'static str); 3] = [
-    (2, b"parts", "5 5", "5 6"),
-    (3, b"others", "5 6", "5 7"),
-    (4, b"path", "5 7", "no"),
-];
-
-// What behind their words cannot be read, and what can.
-const SPOILED: &'static [&'static [u8]] = &[
-    b" ",
-    b"  ",
-    b"\t",
-    b"\r",
-    b"\0",
-    b"\xff",
-    b"s",
-    b" 0",
-    b" a",
-    b"0000000000000000000000000000000000000000000000000000000000000000",
-    b"  0000000000000000000000000000000000000000000000000000000000000000",
-    b"\t0000000000000000000000000000000000000000000000000000000000000000",
-    b" 0000000000000000000000000000000000000000000000000000000000000000 ",
-    b" 0000000000000000000000000000000000000000000000000000000000000000\r",
-    b" 0000000000000000000000000000000000000000000000000000000000000000\0",
-    b" 000000000000000000000000000000000000000000000000000000000000000",
-    b" 00000000000000000000000000000000000000000000000000000000000000000",
-    b" 000000000000000000000000000000000000000000000000000000000000000A",
-    b" 000000000000000000000000000000000000000000000000000000000000000g",
-    b" 000000000000000000000000000000000000000000000000000000000000000/",
-    b" 000000000000000000000000000000000000000000000000000000000000000:",
-    b" 000000000000000000000000000000000000000000000000000000000000000`",
-    b" 000000000000000000000000000000000000000000000000000000000000000\xff",
-    b" +000000000000000000000000000000000000000000000000000000000000000",
-    b" 0x00000000000000000000000000000000000000000000000000000000000000",
-    b" 0000000000000000000000000000000000000000000000000000000000000000 1",
-    b" 0000000000000000000000000000000000000000000000000000000000000000  0000000000000000000000000000000000000000000000000000000000000000",
-    b" 0000000000000000000000000000000000000000000000000000000000000000,0000000000000000000000000000000000000000000000000000000000000000",
-    b" 00000000000000000000000000000000000000000000000000000000000000000000000000000000000000000000000000000000000000000000000000000000",
-];
-
-const READ: &'static [&'static [u8]] = &[
-    b"",
-    b" ffffffffffffffffffffffffffffffffffffffffffffffffffffffffffffffff",
-    b" 0123456789abcdef0123456789abcdef0123456789abcdef0123456789abcdef 0000000000000000000000000000000000000000000000000000000000000000",
-];
-
 #[test]
-fn looks_of_which_numbers_are_spoiled(rt: HostRuntime) -> Result<(), Fail> {
-    let heap = rt.alloc();
-    for (number, word, refused, read) in ROWS {
-        assert!(rt; number < 5);
-        for tail in SPOILED {
-            compare_with(&rt, heap, number, &[word, tail].concat(heap)?, refused)?;
-        }
-        for tail in READ {
-            compare_with(&rt, heap, number, &[word, tail].concat(heap)?, read)?;
-        }
+fn looks_of_which_a_line_is_spoiled(rt: HostRuntime) -> Result<(), Fail> {
+    for place in PLACES {
+        compare_each(&rt, rt.alloc(), place, place.spoiled, place.refusal)?;
+        compare_each(&rt, rt.alloc(), place, place.read, place.answer)?;
     }
     Ok(())
 }
