@@ -1,4 +1,4 @@
-// Each line of the program and each refusal, as short sessions: a typed line stands behind `> `, the others are printed.
+// Each line of the program and each refusal, as short sessions: a typed line stands behind `> `, the others are printed. Roots and signatures are those of tests/model.py.
 use crate::numbers::{ROOT, SIGNED_0, SIGNED_1};
 use crate::printed::compare;
 use std::alloc::{AllocError, Global};
