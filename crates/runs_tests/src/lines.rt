@@ -1,4 +1,4 @@
-// Each line of the program and each refusal, as short sessions: a typed line stands behind `> `, the others are printed.
+// Each line of the program and each refusal, as short sessions: a typed line stands behind `> `, the others are printed. Roots and signatures are those of tests/model.py.
 use crate::numbers::{ROOT, SIGNED_0, SIGNED_1};
 use crate::printed::compare;
 use std::alloc::{AllocError, Global};
@@ -182,6 +182,14 @@ parts eb86eeefaa60753e3796c02e6ee786ee0d6303b177030e288051dc8883dd1734
 others b25cd5cd998d8054ae1e9e13601e83f0e43e7f3474a66165dad31262d50197b6
 path
 store 1 10 0 3
+
+> store 0 3 9 9
+> levels 0 bits 1 seed 17
+> power 1
+> sign a deed
+> state
+cut
+store 0 3 1 9
 
 # power for so many writes, at the next `sign` line only
 > store 0 3 0 3
@@ -399,6 +407,29 @@ store 0 3 0 3
 > sign a
 4 18446744073709551615
 4 18446744073709551615
+
+# twenty levels are as many as there may be, with 1,048,576 keys
+> levels 20 bits 0 seed 0
+> root
+4 0
+
+> store 1048575 7340028 0 4
+> levels 20 bits 256 seed 0
+> power 1
+> sign a
+> state
+cut
+store 1048575 7340028 1048576 4
+
+> store 1048576 7340035 0 4
+> levels 20 bits 1 seed 0
+> sign a
+all given
+
+> store 1048577 7340042 0 4
+> levels 20 bits 1 seed 0
+> sign a
+3 1048577
 
 # looking: whatever the levels and bits, with no store
 > levels 0 bits 1 seed 17

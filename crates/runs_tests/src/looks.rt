@@ -31,6 +31,7 @@ const CUTS: [(usize, &'static str); 13] = [
     (254, "accepted\n"),
 ];
 
+// What is printed where the input ends behind so many bytes.
 fn answer_to(length: usize) -> &'static str {
     CUTS.iter()
         .rev()
@@ -239,10 +240,12 @@ const PRINTED: &'static str = "\n\
     cut\n\
     store 1 3 0 3\n";
 
+// A `look` with that line in a place, between lines that show what it left.
 fn typed(heap: Global, before: &[u8], line: &[u8], behind: &[u8]) -> Result<Vec<u8>, AllocError> {
     [BEFORE, before, line, behind, AFTER].concat(heap)
 }
 
+// Puts each line of a text in a place.
 fn compare_each(
     rt: &impl Abort,
     heap: Global,

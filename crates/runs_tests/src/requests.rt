@@ -7,7 +7,13 @@ use std::str::from_utf8;
 use std::test::Fail;
 
 // Power for 0 to 3 writes, and power that lasts.
-const POWERS: [&'static str; 5] = ["power 0\n", "power 1\n", "power 2\n", "power 3\n", ""];
+const POWERS: [&'static str; 5] = [
+    "power 0\nsign a deed\n",
+    "power 1\nsign a deed\n",
+    "power 2\nsign a deed\n",
+    "power 3\nsign a deed\n",
+    "sign a deed\n",
+];
 
 // A new store and a tree, and how many keys it has.
 const TREES: [(&'static str, u64); 3] = [
@@ -20,8 +26,8 @@ const TREES: [(&'static str, u64); 3] = [
 fn requests(heap: Global, random: &mut Random, tree: &str) -> Result<String, AllocError> {
     let mut typed = String::from_str(heap, tree)?;
     for _ in 0..60 {
-        typed.push_str(POWERS[random.below(5)])?;
-        typed.push_str("sign a deed\n")?;
+        let request = POWERS[random.below(5)];
+        typed.push_str(request)?;
     }
     Ok(typed)
 }
