@@ -30,9 +30,10 @@ err_of P (Err x) e = tt
 pub loop-line-init : goal.loop-line-init
 loop-line-init g c =
     let same = c.into_iter-line-iterator.ensures.into_iter_gives in
-    let new = c.new-program.ensures in
-    (ap split_byte same ∙ c.split-line-items.ensures.byte,
-    known_begun _ _ _ c.new-program.result (ap (split_known_bytes g.R.Read.remaining) same ∙ c.split-line-items.ensures.bytes) new.session new.lines.0 new.lines.1)
+    let new = c.new-program.ensures in (
+      ap split_byte same ∙ c.split-line-items.ensures.byte,
+      known_begun _ _ _ c.new-program.result (ap (split_known_bytes g.R.Read.remaining) same ∙ c.split-line-items.ensures.bytes) new.session new.lines.0 new.lines.1,
+    )
 
 pub loop-line-preserved : goal.loop-line-preserved
 loop-line-preserved g c =
