@@ -1,5 +1,5 @@
 -- A run: the bytes that are read and those that are printed. Assumes nothing: these are definitions.
-use Rattle.std.specs.Prelude.{◌≡◌, ℕ, List, [], ◌++◌, map, Option, Result, IfSome, OnOk}
+use Rattle.std.specs.Prelude.{◌≡◌, ℕ, ◌⊎◌, List, [], ◌∷◌, ◌++◌, map, Option, Result, IfSome, OnOk}
 use Rattle.std.specs.List.{flat_map}
 use Rattle.std.specs.Io.KnownBytes.{Appends}
 use Rattle.reading.specs.Newlines.{lines_of}
@@ -12,10 +12,16 @@ use Rattle.runs.specs.Promises.{Promised}
 abbrev pub AppendsFront : (before after : Option (List ℕ)) → (bytes left : List ℕ) → Type 0
 AppendsFront before after bytes left = (front : List ℕ) × (bytes ≡ front ++ left) × Appends before after front
 
--- Lines in, lines out: the turns that were taken of those that the lines read are cut into, and the bytes that were printed of what they are answered. What is to come: turns, and bytes of the last answer; nothing where all went well
+-- these bytes, if they are some, are the end of what is printed for the last turn
+abbrev pub LeftOfLast : List Turn → (left : List ℕ) → Type 0
+LeftOfLast ts left =
+    (left ≡ []) ⊎ ((before : List Turn) × (t : Turn) × (front : List ℕ) × (ts ≡ before ++ (t ∷ [])) × (bytes_printed t.printed ≡ front ++ left))
+
+-- Lines in, lines out: the turns that were taken of those that the lines read are cut into, and the bytes that were printed of what they are answered. What is to come: more turns, and what is left of the last answer; nothing where all went well
 pub record Run (input printed : List ℕ) (ts : List Turn) (more : List (List (List ℕ))) (left : List ℕ) : Type 0 where
   pub typed : turns_of (lines_of input) ≡ map (λ t. t.typed) ts ++ more
   pub shown : flat_map (λ t. bytes_printed t.printed) ts ≡ printed ++ left
+  pub last : LeftOfLast ts left
   pub answered : (s : Session) × (n₁ : ℕ) × (s₁ : Session) × Fresh s × Ran 0 s ts n₁ s₁
   pub promised : Promised ts
 

@@ -1,7 +1,7 @@
 // A turn of the program: a line, or a `look` with the four lines behind it.
-ghost use Rattle.std.specs.Prelude.{◌≡◌, ℕ, ◌<◌, map, length, MatchResult, string_bytes, vec_items};
+ghost use Rattle.std.specs.Prelude.{◌≡◌, ℕ, ◌<◌, [], map, length, None, IfOk, MatchResult, string_bytes, vec_items};
 ghost use Rattle.std.specs.Option.{option_map};
-ghost use Rattle.sessions.specs.Sessions.{Failed};
+ghost use Rattle.sessions.specs.Sessions.{Failed, Unchanged};
 ghost use Rattle.runs.specs.Turns.{whole, Turn};
 ghost use Rattle.runs.specs.Steps.{Turned};
 
@@ -27,7 +27,8 @@ pub fn turn(
     number: u64,
     lines: &[Vec<u8>],
 ) -> Result<Option<String>, AllocError>
-    ensures { MatchResult result (λ o. 0 < length lines.now → Turned number session.old (record { typed = map vec_items lines.now; printed = option_map string_bytes o }) session.new) (λ _. Failed session.old session.new) }
+    ensures nothing { IfOk result (λ o. map vec_items lines.now ≡ [] → (option_map string_bytes o ≡ None) × Unchanged session.old session.new) }
+    ensures turned { MatchResult result (λ o. 0 < length lines.now → Turned number session.old (record { typed = map vec_items lines.now; printed = option_map string_bytes o }) session.new) (λ _. Failed session.old session.new) }
 {
     let Some((line, behind)) = lines.split_first() else {
         return Ok(None);

@@ -21,26 +21,34 @@ impl Read for Broken<'_> {
     }
 }
 
-// An output that takes a byte at a time, and has room for so many.
+// An output that takes a byte at a time and is interrupted before each, and has room for so many; then it takes none.
 #[derive(Drop)]
 struct Narrow {
     taken: Vec<u8>,
     room: usize,
+    interrupted: bool,
+    // How many were taken when it was flushed.
+    flushed: usize,
 }
 
 impl Write for Narrow {
     fn write(&mut self, buf: &[u8]) -> io::Result<usize> {
+        self.interrupted = !self.interrupted;
+        if self.interrupted {
+            return Err(io::Error::new(ErrorKind::Interrupted, "a signal"));
+        }
         let Some(byte) = buf.first() else {
             return Ok(0);
         };
         if self.taken.len() >= self.room {
-            return Err(io::Error::new(ErrorKind::StorageFull, "no more room"));
+            return Ok(0);
         }
         self.taken.push(*byte)?;
         Ok(1)
     }
 
     fn flush(&mut self) -> io::Result<()> {
+        self.flushed = self.taken.len();
         Ok(())
     }
 }
@@ -104,12 +112,21 @@ const PRINTED: &'static [u8] = b"store 0 3 0 3\n\
 #[test]
 fn output_that_fails(rt: HostRuntime) -> Result<(), Fail> {
     for room in 0..=PRINTED.len() {
-        let taken = Vec::new(rt.alloc());
-        let reader = TYPED;
-        let mut writer = Narrow { taken, room };
-        let result = run(rt.alloc(), reader, &mut writer);
-        assert_eq!(rt; result.is_ok(), room == PRINTED.len(), "room for {room}");
+        let mut writer = Narrow {
+            taken: Vec::new(rt.alloc()),
+            room,
+            interrupted: false,
+            flushed: 0,
+        };
+        let kind = run(rt.alloc(), TYPED, &mut writer)
+            .err()
+            .map(|error| error.kind());
+        let expected = (room < PRINTED.len()).then_some(ErrorKind::WriteZero);
+        assert_eq!(rt; kind, expected, "room for {room}");
         assert_eq!(rt; writer.taken.as_slice(), &PRINTED[..room]);
+        if expected.is_none() {
+            assert_eq!(rt; writer.flushed, room);
+        }
     }
     Ok(())
 }

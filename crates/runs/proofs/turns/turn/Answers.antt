@@ -21,16 +21,16 @@ commanded : (P : Type 0) (r : Result (Option (String Global)) AllocError) (n : �
 commanded P (Ok o) n s s₁ lines line behind c four e sp are done said = λ _. (line, behind, e, inl (c, four, o, sp, are, done, said, refl))
 commanded P (Err x) n s s₁ lines line behind c four e sp are done said = done
 
-pub returns-in-Some-2 : goal.returns-in-Some-2
-returns-in-Some-2 c =
+pub returns-in-Some-2-clause-turned : goal.returns-in-Some-2-clause-turned
+returns-in-Some-2-clause-turned c =
     let lines = ap (map vec_items) c.in-Some.ensures.cases.0 in
     let read = MatchOption-at_some _ _ c.in-Some-2.command c.in-Some-2.is c.in_ok-command.ensures.read in
     let spelled = subst (λ (x : List ℕ). Spelled x c.in-Some-2.command) c.deref.ensures.value read in
     let four = c.new-four.ensures in
     commanded _ c.execute.result c.args.number c.args.session.now c.execute.new.self _ _ _ c.in-Some-2.command c.new-four.result lines spelled (four.0 ∙ c.saturating_add.ensures, four.1, four.2, four.3, four.4) c.execute.ensures.session c.execute.ensures.text
 
-pub returns-in_ok-format-in-None : goal.returns-in_ok-format-in-None
-returns-in_ok-format-in-None c =
+pub returns-in_ok-format-in-None-clause-turned : goal.returns-in_ok-format-in-None-clause-turned
+returns-in_ok-format-in-None-clause-turned c =
     let lines = ap (map vec_items) c.in-Some.ensures.cases.0 in
     let none = MatchOption-at_none _ _ c.in-None.is c.in_ok-command.ensures.read in
     λ _. (_, _, lines, inr (λ k sp. none k (subst (λ (x : List ℕ). Spelled x k) (sym c.deref.ensures.value) sp), ap Some c.in_ok-format-in-None.ensures.ok, (refl, refl, refl)))
