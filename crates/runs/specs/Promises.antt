@@ -72,7 +72,7 @@ LooksAtOwn t k n =
 abbrev pub LookedOwn : List Turn → Type 0
 LookedOwn ts =
     (before after : List Turn) (t : Turn) → ts ≡ before ++ (t ∷ after) → t.printed ≡ Some (codes "accepted") →
-    (k : ℕ) × (n : ℕ) × (seed : ℕ) × AskedWith before k n seed × LooksAtOwn t k n
+    (l : ℕ) × (n : ℕ) × (seed : ℕ) × AskedWith before l n seed × LooksAtOwn t l n
 
 -- what answers a `root` line is that root, or a refusal where there is none
 abbrev pub RootsPrinted : List Turn → Type 0

@@ -36,7 +36,7 @@ use Rattle.sessions.specs.Sessions.{power_of, bits_asked, look_answer, Says, Ans
 use Rattle.sessions.specs.declared.session.Session.{Session}
 
 -- a text is only one
-pub says_same : (o : Option (String Global)) (p q : List ℕ) → Says o p → Says o q → p ≡ q
+says_same : (o : Option (String Global)) (p q : List ℕ) → Says o p → Says o q → p ≡ q
 says_same (Some s) p q e f = sym e ∙ f
 says_same None p q e f = absurd e
 
@@ -52,7 +52,7 @@ one_digit (NextKey k) = omega arith
 one_digit (Bits n) = omega arith
 one_digit (Line k) = omega arith
 
-pub no_refusal : (r : Refusal) → refusal_spelled r ≡ codes "accepted" → ⊥
+no_refusal : (r : Refusal) → refusal_spelled r ≡ codes "accepted" → ⊥
 no_refusal r e =
     let small = one_digit r in
     let digit = ap (λ (cs : List ℕ). cs ++ (codes " " ++ decimal (refusal_place r))) (decimal_digit (refusal_number r) small) in
