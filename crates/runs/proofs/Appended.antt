@@ -1,6 +1,6 @@
 -- What writers take, one write after the other.
 use Rattle.std.proofs.Common.{ℕ, List, [], ◌++◌, None, Some, Option, sym, refl, ap, ◌∙◌, append_assoc, append-nil}
-use Rattle.std.specs.Io.KnownBytes.{Appends, Keeps}
+use Rattle.std.specs.Io.KnownBytes.{Appends}
 use Rattle.runs.specs.Runs.{AppendsFront}
 
 pub appends_nothing : (a : Option (List ℕ)) → Appends a a []
@@ -13,18 +13,9 @@ appends_both (Some x) None c xs ys p q = absurd p
 appends_both (Some x) (Some y) None xs ys p q = absurd q
 appends_both (Some x) (Some y) (Some z) xs ys p q = q ∙ (ap (λ (l : List ℕ). l ++ ys) p ∙ append_assoc x xs ys)
 
-keeps_both : (a b c : Option (List ℕ)) (xs : List ℕ) → Appends a b xs → Keeps b c → Appends a c xs
-keeps_both None b c xs p q = tt
-keeps_both (Some x) None c xs p q = absurd p
-keeps_both (Some x) (Some y) None xs p q = absurd q
-keeps_both (Some x) (Some y) (Some z) xs p q = q ∙ p
-
 pub front_none : (a : Option (List ℕ)) (bytes : List ℕ) → AppendsFront a a bytes bytes
 front_none a bytes = ([], refl, appends_nothing a)
 
 pub front_more : (a b c : Option (List ℕ)) (bytes left left₁ : List ℕ) → AppendsFront a b bytes left → AppendsFront b c left left₁ → AppendsFront a c bytes left₁
 front_more a b c bytes left left₁ (xs, e, p) (ys, d, q) =
     (xs ++ ys, e ∙ (ap (λ (l : List ℕ). xs ++ l) d ∙ sym (append_assoc xs ys left₁)), appends_both a b c xs ys p q)
-
-pub front_kept : (a b c : Option (List ℕ)) (bytes left : List ℕ) → AppendsFront a b bytes left → Keeps b c → AppendsFront a c bytes left
-front_kept a b c bytes left (xs, e, p) q = (xs, e, keeps_both a b c xs p q)

@@ -25,7 +25,7 @@ abbrev pub shown_of : Turn → List ℕ
 shown_of t = bytes_printed t.printed
 
 -- one turn more at the end
-pub ran_more : (ts : List Turn) (n n₁ : ℕ) (s s₁ s₂ : Session) (t : Turn) → Ran n s ts n₁ s₁ → Turned n₁ s₁ t s₂ → Ran n s (ts ++ (t ∷ [])) (line_after n₁ (length t.typed)) s₂
+ran_more : (ts : List Turn) (n n₁ : ℕ) (s s₁ s₂ : Session) (t : Turn) → Ran n s ts n₁ s₁ → Turned n₁ s₁ t s₂ → Ran n s (ts ++ (t ∷ [])) (line_after n₁ (length t.typed)) s₂
 unfolding Ran
 ran_more [] n n₁ s s₁ s₂ t r turned =
     (s₂, subst (λ (x : Session). Turned n x t s₂) r.1 (subst (λ (k : ℕ). Turned k s₁ t s₂) r.0 turned), (ap (λ (k : ℕ). line_after k (length t.typed)) r.0, refl))
