@@ -1,0 +1,165 @@
+#!/usr/bin/env python3
+"""Plants bugs one at a time in the code of each crate, and says what refuses each: a proof, a test, or nothing.
+
+Run by hand, not by the gate:  python3 tests/planted.py [--write] [crate ..]
+The bugs are the must-fail edits, which the gate tries too, and the files below tests/planted/, of the same form. With --write the table in docs/PLANTED.md is written again, the rows of the crates that were named alone. It works on a copy of the checkout.
+"""
+import os
+import re
+import shutil
+import subprocess
+import sys
+import tempfile
+
+TOP = os.path.dirname(sys.path[0])
+PAGE = TOP + "/docs/PLANTED.md"
+FROM, TO = "<!-- the table, as tests/planted.py writes it -->\n\n", "\n\n<!-- the end of the table -->"
+HEAD = "| crate | file | the bug | refused by | where |\n|---|---|---|---|---|"
+
+
+def crates():
+    """Each crate, and those beneath it."""
+    with open(TOP + "/crates.txt") as lines:
+        pairs = [line.split(":") for line in lines if not line.startswith("#")]
+    return {name: beneath.split() for name, beneath in pairs}
+
+
+def bugs(crate):
+    """The files of the bugs of a crate, by name, and whether the gate tries them."""
+    found = {}
+    for folder, in_gate in (("crates/%s/must-fail" % crate, True), ("tests/planted/" + crate, False)):
+        if os.path.isdir("%s/%s" % (TOP, folder)):
+            for name in os.listdir("%s/%s" % (TOP, folder)):
+                assert name not in found, "%s is there twice" % name
+                found[name] = ("%s/%s/%s" % (TOP, folder, name), in_gate)
+    return dict(sorted(found.items()))
+
+
+def told(file):
+    """What a bug does, and the file that it is planted in."""
+    with open(file) as it:
+        first, rest = it.read().split("\n", 1)
+    return first, re.search("^file: (.*)$", rest, re.M)[1]
+
+
+def goal(first):
+    """Which kind of fact the first error of a proof is about, and the name of the goal."""
+    name = re.search("`([a-z][a-z0-9-]*)`", first)
+    place = re.search(r"proofs/\S+?\.antt:\d+", first)
+    if "that what the function ensures" in first or name and name[1].startswith("returns"):
+        kind = "what it ensures"
+    elif "invariant" in first or name and name[1].startswith("loop"):
+        kind = "a loop's invariant"
+    elif "requires" in first:
+        kind = "what a callee requires"
+    else:
+        kind = "another fact"
+    return kind + (", at a line by hand" if place else ""), "`%s`" % name[1] if name else ""
+
+
+def proofs(room, crate):
+    """What the proofs say of each bug of a crate: the kind of fact and its name, or nothing where the crate is still proved."""
+    folder = "%s/crates/%s/must-fail" % (room, crate)
+    shutil.rmtree(folder, ignore_errors=True)
+    os.makedirs(folder)
+    for name, (file, _) in bugs(crate).items():
+        shutil.copy(file, "%s/%s" % (folder, name))
+    ran = subprocess.run(["rt", "must-fail", crate], cwd=room, stdout=subprocess.PIPE, stderr=subprocess.STDOUT, text=True)
+    said = dict(re.findall(r"must-fail %s/(\S+): (.*)" % crate, ran.stdout.replace("rt: must-fail", "must-fail")))
+    answers = {}
+    for name in bugs(crate):
+        answer = said.get(name, "")
+        if answer.startswith("NOT REFUSED"):
+            answers[name] = None
+        elif answer.startswith("refused, as it must be: "):
+            answers[name] = goal(answer)
+        else:
+            sys.exit("%s/%s: %s" % (crate, name, answer or ran.stdout))
+    return answers
+
+
+def tests(room, crate, file):
+    """The first test that refuses a bug with which the crate is still proved."""
+    was = {}
+    with open(file) as it:
+        lines = it.read().split("\n")
+    for line in lines:
+        if line.startswith("file: "):
+            path = "%s/crates/%s/%s" % (room, crate, line[6:])
+        elif line.startswith("old: "):
+            old = line[5:]
+        elif line.startswith("new:"):
+            with open(path) as it:
+                text = it.read()
+            was.setdefault(path, text)
+            with open(path, "w") as it:
+                it.write(text.replace(old, line[4:].removeprefix(" ")))
+    try:
+        return tested(room, crate)
+    finally:
+        for path, text in was.items():
+            with open(path, "w") as it:
+                it.write(text)
+
+
+def tested(room, crate):
+    """The first test of the copy that fails."""
+    for other, beneath in crates().items():
+        folder = "%s/crates/%s" % (room, other)
+        if other.endswith("_tests") and crate in [other] + beneath:
+            ran = subprocess.run(["rt", "try", "--test"], cwd=folder, stdout=subprocess.PIPE, stderr=subprocess.STDOUT, text=True)
+            failed = re.search(r"^test (\S+) \.\.\. (?!ok)", ran.stdout, re.M)
+            if failed or "0 failed" not in ran.stdout:
+                return "a test of `%s`" % other, "`%s`" % failed[1] if failed else "it does not end"
+    for other, beneath in crates().items():
+        folder = "%s/crates/%s" % (room, other)
+        if os.path.exists(folder + "/stdin") and crate in [other] + beneath:
+            with open(folder + "/stdin") as stdin:
+                ran = subprocess.run(["rt", "run"], cwd=folder, stdin=stdin, stdout=subprocess.PIPE, stderr=subprocess.PIPE)
+            with open(folder + "/stdout", "rb") as stdout:
+                if ran.stdout != stdout.read():
+                    return "the run of `%s`" % other, ""
+    if crate in ["kachumpe"] + crates()["kachumpe"]:
+        for script in (["typed.py"], ["sessions.py", "300"]):
+            ran = subprocess.run(["python3", "tests/" + script[0]] + script[1:], cwd=room, stdout=subprocess.PIPE, stderr=subprocess.PIPE)
+            if ran.returncode:
+                return "`tests/%s`" % script[0], ""
+    return "nothing", ""
+
+
+def rows(room, crate):
+    """The rows of a crate in the table."""
+    answers, lines = proofs(room, crate), []
+    for name, (file, in_gate) in bugs(crate).items():
+        what, path = told(file)
+        by, where = answers[name] or tests(room, crate, file)
+        lines.append("| `%s` | %s | %s | %s | %s |" % (crate, path.removeprefix("src/"), what.replace("|", "\\|"), by + (" *" if in_gate else ""), where))
+        print(lines[-1], flush=True)
+    return lines
+
+
+def write(made):
+    """Puts the rows that were made in the place of those of the same crates."""
+    with open(PAGE) as it:
+        before, rest = it.read().split(FROM)
+    table, after = rest.split(TO)
+    kept = {}
+    for line in table.split("\n")[2:]:
+        kept.setdefault(line.split("`")[1], []).append(line)
+    lines = [line for crate in crates() for line in made.get(crate, kept.get(crate, []))]
+    with open(PAGE, "w") as it:
+        it.write(before + FROM + "\n".join([HEAD] + lines) + TO + after)
+
+
+def main():
+    words = sys.argv[1:]
+    named = [word for word in words if word != "--write"] or [it for it in crates() if bugs(it)]
+    with tempfile.TemporaryDirectory() as folder:
+        room = folder + "/planted"
+        shutil.copytree(TOP, room, symlinks=True)
+        made = {crate: rows(room, crate) for crate in named}
+    if "--write" in words:
+        write(made)
+
+
+main()
