@@ -1,6 +1,7 @@
 -- The store while a key is reserved: it stays sound, and the next key rises by one where both numbers are written.
-use Rattle.std.proofs.Common.{◌≡◌, ◌∙◌, ℕ, zero, suc, ◌+◌, ◌*◌, ◌<◌, ◌≤◌, true, ◌⊎◌, List, [], ◌∷◌, set, sym, refl, ap, subst, subst₂, inl, inr, arith}
+use Rattle.std.proofs.Common.{◌≡◌, ◌∙◌, ℕ, zero, suc, ◌+◌, ◌*◌, ◌<◌, ◌≤◌, true, ◌⊎◌, List, [], ◌∷◌, set, slice_index, sym, refl, ap, subst, subst₂, inl, inr, arith}
 use Rattle.std.proofs.lemmas.Bool.Decides.{nat_tests}
+use Rattle.counter.specs.Promises.{LargestRight}
 use Rattle.counter.specs.Store.{check, slot_ok, written, next, reserved, sound, counting}
 
 -- a store of four numbers whose first slot is written next, and one whose second is
@@ -93,3 +94,24 @@ counting_four a p b q s =
 
 pub counting_is : (m : List ℕ) → sound m ≡ true → counting m ≡ next m ∷ check (next m) ∷ []
 counting_is = by_four (λ (m : List ℕ). counting m ≡ next m ∷ check (next m) ∷ []) counting_four
+
+-- the next key is the largest count that is right
+none_larger : (a p b q x : ℕ) → (p ≡ check a → a ≤ x) → (q ≡ check b → b ≤ x) → (k : ℕ) → k < 2 → slot_ok (a ∷ p ∷ b ∷ q ∷ []) k ≡ true →
+    slice_index (a ∷ p ∷ b ∷ q ∷ []) (2 * k) ≤ x
+none_larger a p b q x f g zero h s = f (grind (arith, nat_tests))
+none_larger a p b q x f g (suc zero) h s = g (grind (arith, nat_tests))
+none_larger a p b q x f g (suc (suc k)) h s = absurd (omega arith)
+
+largest_four : (a p b q : ℕ) → sound (a ∷ p ∷ b ∷ q ∷ []) ≡ true → LargestRight (a ∷ p ∷ b ∷ q ∷ []) (next (a ∷ p ∷ b ∷ q ∷ []))
+largest_four a p b q s =
+    elim (which a p b q s) [
+      | inl v ↦
+          let n = first_written a p b q v.0 v.1 in
+          ((1, omega arith, grind (arith, nat_tests), sym n.2), none_larger a p b q _ (λ e. omega (arith, v.1 e, n.2)) (λ _. omega (arith, n.2)))
+      | inr v ↦
+          let n = second_written a p b q v.0 v.1 in
+          ((0, omega arith, grind (arith, nat_tests), sym n.2), none_larger a p b q _ (λ _. omega (arith, n.2)) (λ e. omega (arith, v.1 e, n.2)))
+    ]
+
+pub largest : (m : List ℕ) → sound m ≡ true → LargestRight m (next m)
+largest = by_four (λ (m : List ℕ). LargestRight m (next m)) largest_four

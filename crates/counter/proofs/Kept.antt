@@ -9,10 +9,10 @@ use Rattle.tree.specs.Tree.{power}
 use Rattle.tree.proofs.Powers.{few_keys}
 use Rattle.counter.specs.Answers.{unrefused, reserve_refusal}
 use Rattle.counter.specs.Cells.{left_by}
-use Rattle.counter.specs.Promises.{Keeps, StoreKept, LeftByWrites, TwoWrites, SlotCounts, FirstKey}
+use Rattle.counter.specs.Promises.{Keeps, StoreKept, LeftByWrites, TwoWrites, SlotCounts, NextIsLargest, FirstKey}
 use Rattle.counter.specs.declared.write.Write.{Write}
 use Rattle.counter.specs.Store.{slot_ok, next, reserved, reserving, sound}
-use Rattle.counter.proofs.Counting.{kept, cut_keeps, counting_is}
+use Rattle.counter.proofs.Counting.{kept, cut_keeps, counting_is, largest}
 
 -- a cut leaves the next key as it was
 cut_none : (n : ℕ) (m : List ℕ) → sound m ≡ true → slot_ok m 0 ≡ true → slot_ok m 1 ≡ true → next m < 4294967290 → leb 2 n ≡ false → next (reserved n m) ≡ next m
@@ -67,6 +67,9 @@ two_writes_lem l (suc (suc n)) m h = (answer_two l n m (reserve_refusal l m), re
 
 pub slot_counts_lem : SlotCounts
 slot_counts_lem = counting_is
+
+pub next_is_largest_lem : NextIsLargest
+next_is_largest_lem = largest
 
 some_key : (l : ℕ) → 1 ≤ power l
 some_key zero = omega arith

@@ -1,5 +1,5 @@
 -- What is promised of the store. Each is a statement; a function of this crate has it as its contract, and so it is proved. Assumes nothing.
-use Rattle.std.specs.Prelude.{◌≡◌, ℕ, ◌+◌, ◌≤◌, true, false, List, [], ◌∷◌}
+use Rattle.std.specs.Prelude.{◌≡◌, ℕ, ◌+◌, ◌*◌, ◌≤◌, ◌<◌, true, false, List, [], ◌∷◌, slice_index}
 use Rattle.keys.specs.Limits.{max_levels}
 use Rattle.counter.specs.Answers.{reserve_answer, reserve_stored}
 use Rattle.counter.specs.Cells.{left_by}
@@ -28,6 +28,15 @@ TwoWrites = (l n : ℕ) (m : List ℕ) → 2 ≤ n → (reserve_answer l m n ≡
 -- the slot that counts is the next key and its check
 abbrev pub SlotCounts : Type 0
 SlotCounts = (m : List ℕ) → sound m ≡ true → counting m ≡ next m ∷ check (next m) ∷ []
+
+-- a number is a count whose check fits, and no count whose check fits is larger
+abbrev pub LargestRight : List ℕ → ℕ → Type 0
+LargestRight m x =
+    ((k : ℕ) × (k < 2) × (slot_ok m k ≡ true) × (slice_index m (2 * k) ≡ x)) × ((k : ℕ) → k < 2 → slot_ok m k ≡ true → slice_index m (2 * k) ≤ x)
+
+-- the next key is the largest of them
+abbrev pub NextIsLargest : Type 0
+NextIsLargest = (m : List ℕ) → sound m ≡ true → LargestRight m (next m)
 
 -- the new store gives key 0, and has the count 1 afterwards
 abbrev pub FirstKey : Type 0

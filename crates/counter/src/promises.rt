@@ -1,5 +1,5 @@
 // What is promised of the store: each statement is the contract of a function, so that the crate is proved only with its proof.
-ghost use Rattle.counter.specs.Promises.{StoreKept, LeftByWrites, TwoWrites, SlotCounts, FirstKey};
+ghost use Rattle.counter.specs.Promises.{StoreKept, LeftByWrites, TwoWrites, SlotCounts, NextIsLargest, FirstKey};
 
 // A sound store stays sound wherever power fails, and the next key rises by one where it is given.
 pub fn store_kept()
@@ -22,6 +22,12 @@ pub fn two_writes()
 #[tactic(auto, using(crate::proofs::Kept::slot_counts_lem))]
 pub fn slot_counts()
     ensures { SlotCounts }
+{}
+
+// The next key is the largest count that is right.
+#[tactic(auto, using(crate::proofs::Kept::next_is_largest_lem))]
+pub fn next_is_largest()
+    ensures { NextIsLargest }
 {}
 
 // A new store gives key 0.
