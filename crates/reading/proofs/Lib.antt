@@ -6,3 +6,4 @@ pub mod Lines
 pub mod Newlines
 pub mod Pieces
 pub mod Printed
+mod Rejoined

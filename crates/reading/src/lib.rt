@@ -3,6 +3,7 @@
 
 pub mod decimal;
 pub mod hex;
+pub mod laws;
 pub mod numbers;
 pub mod spaced;
 pub mod words;
