@@ -1,5 +1,10 @@
 // What holds of turns and runs: each statement is the contract of a function, so that the crate is proved only with its proof.
-ghost use Rattle.runs.specs.Laws.{AskedOnce, AnsweredOnce, PrintedOnce};
+ghost use Rattle.runs.specs.Laws.{LinesCut, AskedOnce, AnsweredOnce, PrintedOnce};
+
+// Turns are the lines again, and each is a line or a `look` with those behind it.
+pub fn lines_cut()
+    ensures { LinesCut }
+{}
 
 // The levels, bits and seed that are asked with are determined by the turns before.
 pub fn asked_once()
