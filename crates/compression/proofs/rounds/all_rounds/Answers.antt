@@ -1,3 +1,4 @@
+-- No round yet.
 use Rattle.std.proofs.Common.{refl}
 use Rattle.compression.specs.Fips180.{rounds}
 use Rattle.compression.proofs.rounds.all_rounds.Goals as goal

@@ -1,3 +1,4 @@
+-- The working variables after eight rounds for each turn.
 use Rattle.std.proofs.Common.{◌≡◌, ◌*◌}
 use Rattle.compression.specs.Fips180.{rounds}
 use Rattle.compression.proofs.rounds.all_rounds.Given as goal

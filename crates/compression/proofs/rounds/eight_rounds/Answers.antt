@@ -1,3 +1,4 @@
+-- One round after the other.
 use Rattle.std.proofs.Common.{◌+◌, refl, arith}
 use Rattle.compression.proofs.Steps.{round_more}
 use Rattle.compression.proofs.rounds.eight_rounds.Goals as goal

@@ -1,3 +1,4 @@
+-- One word of the schedule more; the eighth is the last.
 use Rattle.std.proofs.Common.{◌≡◌, ◌+◌, ℕ, take, length-set, slice_set, subst, arith}
 use Rattle.compression.specs.Fips180.{schedule}
 use Rattle.compression.proofs.Steps.{scheduled_more}

@@ -1,3 +1,4 @@
+-- The words before this one are the schedule from word t on.
 use Rattle.std.proofs.Common.{◌≡◌, ◌+◌, ℕ, List, take, length}
 use Rattle.compression.specs.Fips180.{schedule}
 use Rattle.compression.proofs.schedule.eight_words.Given as goal

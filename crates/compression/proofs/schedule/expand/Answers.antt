@@ -1,3 +1,4 @@
+-- Six times eight words are the forty-eight, and the array holds no more.
 use Rattle.std.proofs.Common.{◌≡◌, ◌+◌, ◌*◌, ℕ, take, subst, sym, ◌∙◌, arith}
 use Rattle.std.proofs.lemmas.List.{take_all}
 use Rattle.compression.specs.Fips180.{schedule}

@@ -1,3 +1,4 @@
+-- What is written so far is the schedule, eight words at a time.
 use Rattle.std.proofs.Common.{◌≡◌, ◌+◌, ◌*◌, ℕ, List, take, length}
 use Rattle.compression.specs.Fips180.{words, schedule}
 use Rattle.compression.proofs.schedule.expand.Given as goal

@@ -1,3 +1,4 @@
+-- One word of the block more.
 use Rattle.std.proofs.Common.{refl, arith}
 use Rattle.compression.specs.Fips180.{words}
 use Rattle.compression.proofs.Steps.{word_more}

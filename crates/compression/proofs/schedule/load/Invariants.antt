@@ -1,3 +1,4 @@
+-- The words before this one stand in front.
 use Rattle.std.proofs.Common.{◌≡◌, take, length}
 use Rattle.compression.specs.Fips180.{words}
 use Rattle.compression.proofs.schedule.load.Given as goal

@@ -1,3 +1,4 @@
+-- The form with fewer operations has the same bits, where all three are words.
 use Rattle.std.proofs.Common.{arith}
 use Rattle.compression.proofs.Bits.{chosen}
 use Rattle.compression.specs.Fips180.{ch}

@@ -1,3 +1,4 @@
+-- The form with fewer operations has the same bits.
 use Rattle.compression.proofs.Bits.{most}
 use Rattle.compression.specs.Fips180.{maj}
 use Rattle.compression.proofs.words.majority.Goals as goal

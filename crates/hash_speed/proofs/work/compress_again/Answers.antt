@@ -1,3 +1,4 @@
+-- No block yet, and one block more.
 use Rattle.std.proofs.Common.{rules}
 use Rattle.hash_speed.specs.Work.{after_blocks}
 use Rattle.hash_speed.proofs.work.compress_again.Goals as goal

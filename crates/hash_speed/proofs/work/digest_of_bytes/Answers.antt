@@ -1,3 +1,4 @@
+-- No buffer yet, and one buffer more.
 use Rattle.std.proofs.Common.{rules}
 use Rattle.hash_speed.specs.Work.{copies}
 use Rattle.hash_speed.proofs.work.digest_of_bytes.Goals as goal

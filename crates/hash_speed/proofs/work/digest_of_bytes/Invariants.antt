@@ -1,3 +1,4 @@
+-- The hasher has taken in the buffer once for each turn.
 use Rattle.sha256.specs.Streams.{Holds}
 use Rattle.hash_speed.specs.Work.{copies}
 use Rattle.hash_speed.proofs.work.digest_of_bytes.Given as goal

@@ -1,3 +1,4 @@
+-- The bytes before this one are written.
 use Rattle.std.proofs.Common.{◌≡◌, ℕ, ◌+◌, ◌*◌, ◌%◌, ◌<◌, length, slice_index}
 use Rattle.hash_speed.proofs.work.pattern.Given as goal
 

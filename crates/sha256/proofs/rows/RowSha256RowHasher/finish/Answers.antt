@@ -1,3 +1,4 @@
+-- The number is what the digest means.
 use Rattle.std.proofs.Common.{ap, ◌∙◌}
 use Rattle.hash.specs.Value.{worth}
 use Rattle.sha256.specs.Rows.{row_hash}

@@ -1,3 +1,4 @@
+-- The first number of the row is the tag.
 use Rattle.std.proofs.Common.{ℕ, [], ◌∷◌, subst, ◌∙◌}
 use Rattle.sha256.specs.Rows.{row_bytes}
 use Rattle.sha256.specs.Streams.{Holds}

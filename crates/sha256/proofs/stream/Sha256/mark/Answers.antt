@@ -1,3 +1,4 @@
+-- With 56 bytes or more the mark ends the block, and with fewer it leaves room for the length.
 use Rattle.std.proofs.Common.{◌-◌, ◌%◌, arith}
 use Rattle.sha256.specs.Streams.{Holds}
 use Rattle.sha256.proofs.Absorbing.{marked_short, marked_full}

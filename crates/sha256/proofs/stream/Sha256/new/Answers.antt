@@ -1,3 +1,4 @@
+-- The hash value before any block, and an empty block.
 use Rattle.std.proofs.Common.{refl}
 use Rattle.compression.specs.Fips180.{hash_after}
 use Rattle.sha256.specs.Streams.{Holds}

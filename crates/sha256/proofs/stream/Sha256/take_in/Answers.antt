@@ -1,3 +1,4 @@
+-- Either the bytes fill the block, or they leave it short.
 use Rattle.std.proofs.Common.{length-append, refl, arith}
 use Rattle.sha256.specs.Streams.{Holds}
 use Rattle.sha256.proofs.Absorbing.{put_short, put_full}

@@ -1,3 +1,4 @@
+-- The piece in front is taken in, behind those before it.
 use Rattle.std.proofs.Common.{◌≡◌, ℕ, List, ◌++◌, sym, ap, subst, ◌∙◌}
 use Rattle.std.proofs.lemmas.List.{append_assoc, take-append-drop}
 use Rattle.sha256.specs.Streams.{Holds}

@@ -1,3 +1,4 @@
+-- What was taken in and what is left are the bytes; each turn leaves fewer.
 use Rattle.std.proofs.Common.{◌≡◌, ℕ, List, ◌++◌, length}
 use Rattle.sha256.specs.Streams.{Holds}
 use Rattle.sha256.proofs.stream.Sha256.update.Given as goal
