@@ -1,7 +1,7 @@
 // A store's cells, as the device that holds them: each number is written at once, and power may fail before a write.
-ghost use Rattle.std.specs.Prelude.{◌≡◌, ℕ, ◌-◌, ◌<◌, List, ◌++◌, length, is_ok, Option, Some, nat_lt, OnOk};
+ghost use Rattle.std.specs.Prelude.{◌≡◌, ℕ, ◌<◌, List, ◌++◌, length, is_ok, Option, Some, nat_lt, OnOk};
 ghost use Rattle.std.specs.Borrow.{GName};
-ghost use Rattle.counter.specs.Cells.{left_by, made_if};
+ghost use Rattle.counter.specs.Cells.{left_by, made_if, lasts_behind};
 ghost use Rattle.counter.specs.declared.write.Write.{Write};
 
 // A number was not written: power failed before it, or there is no such cell.
@@ -29,6 +29,7 @@ pub trait Cells {
         ensures held { held self.new ≡ left_by (made_if (is_ok result) place value) (held self.old) }
         ensures there { OnOk result (place < length (held self.old)) }
         ensures writes { writes self.new ≡ writes self.old ++ made_if (is_ok result) place value }
-        ensures lasts { (n : ℕ) → lasts self.old ≡ Some n → place < length (held self.old) → (is_ok result ≡ nat_lt 0 n) × (lasts self.new ≡ Some (n - 1)) }
+        ensures made { (n : ℕ) → lasts self.old ≡ Some n → place < length (held self.old) → is_ok result ≡ nat_lt 0 n }
+        ensures lasts { lasts self.new ≡ lasts_behind (is_ok result) (lasts self.old) }
         ensures loan { loan self.new ≡ loan self.old };
 }
