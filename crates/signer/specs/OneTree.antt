@@ -44,6 +44,6 @@ GivenNumber l h s m xs v =
 abbrev pub MustKnow : Type 0
 MustKnow =
     (h : Mix) (s l n : ℕ) (m : List ℕ) (xs : List Asked) (bs : List Bool) (g : Signature) → sound m ≡ true →
-    1 ≤ n → length bs ≡ n → ((i : ℕ) (b : List Bool) → KeyGiven l m xs i b → length b ≡ n) →
+    1 ≤ n → ((i : ℕ) (b : List Bool) → KeyGiven l m xs i b → length b ≡ n) →
     accepted h (node h n s l 0) l bs g ≡ true → (KeyGiven l m xs g.key bs → ⊥) →
     ((j : ℕ) × (j < n) × (slice_index g.parts j ≡ secret h s g.key j (slice_index_or bs j false)) × (GivenNumber l h s m xs (slice_index g.parts j) → ⊥)) ⊎ Collision h
