@@ -24,7 +24,7 @@ OwnOrStrings =
     (s l n k : ℕ) (bs : List Bool) (g : Signature) → BoundedRow (numbers g) → accepted row_hash (node row_hash n s l 0) k bs g ≡ true →
     Own row_hash s l n k bs g ⊎ LocatedStrings n s l bs g
 
--- whoever shows an accepted signature that its key did not give has, in it, a secret number of the signer's that no signature given out in the run holds in any of its parts; or two byte strings differ and have the same SHA-256, one hashed in the signer's own tree and one in looking or in that tree, too. The signer is one tree: all that it gave is for l levels and n bits
+-- whoever shows an accepted signature that its key did not give has, in it, a secret number of the signer's that no signature given out in the run holds among its numbers; or two byte strings differ and have the same SHA-256, one hashed in the signer's own tree and one in looking or in that tree, too. The signer is one tree: all that it gave is for l levels and n bits
 abbrev pub MustKnowStrings : Type 0
 MustKnowStrings =
     (s l n k : ℕ) (m : List ℕ) (qs : List Request) (bs : List Bool) (g : Signature) → BoundedRow (numbers g) → 1 ≤ n →

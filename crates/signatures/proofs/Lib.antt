@@ -1,6 +1,7 @@
 -- The lemmas of this crate.
 pub mod Accepts
 pub mod Each
+pub mod Flat
 pub mod Forgeries
 pub mod Leaves
 pub mod Numbers

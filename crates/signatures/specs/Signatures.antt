@@ -1,5 +1,5 @@
 -- What a signature is, and when it is accepted. For every hash h, and for any number of bits and levels. Assumes nothing: these are definitions.
-use Rattle.std.specs.Prelude.{ℕ, suc, Bool, true, false, not, ◌&&◌, List, [], ◌∷◌, ◌++◌, length, ◌==◌, nat_lt}
+use Rattle.std.specs.Prelude.{◌≡◌, ℕ, suc, Bool, true, false, not, ◌&&◌, List, [], ◌∷◌, ◌++◌, length, ◌==◌, nat_lt}
 use Rattle.hash.specs.Mix.{Mix}
 use Rattle.keys.specs.Keys.{secret, shown}
 use Rattle.tree.specs.Tree.{power, path_from, up}
@@ -18,6 +18,10 @@ blank = record { key = 0; parts = []; others = []; path = [] }
 -- every number of a signature
 abbrev pub numbers : Signature → List ℕ
 numbers g = g.parts ++ (g.others ++ g.path)
+
+-- a signature by key i for n bits lies in a row of numbers: they are all of its numbers, in their order
+abbrev pub LiesIn : (i n : ℕ) → List ℕ → Signature → Type 0
+LiesIn i n vs g = (g.key ≡ i) × (length g.parts ≡ n) × (length g.others ≡ n) × (numbers g ≡ vs)
 
 -- a number for each bit, by the bit and its place, from place j on
 unfoldable pub each_from : (ℕ → Bool → ℕ) → ℕ → List Bool → List ℕ

@@ -120,7 +120,7 @@ in_given h s l m xs v y =
     (a.0, a.1, In_left v (parts a.0.key a.0.request.bits) _ (subst (λ (x : ℕ). In x (parts a.0.key a.0.request.bits)) (sym e) i))
 
 pub must_know_lem : MustKnow
-must_know_lem h s l n m xs bs g sd _ _ o e sized acc not_given =
+must_know_lem h s l n m xs bs g sd o sized acc not_given =
     let gave : Gave l n g.key bs (gathered l m xs) =
     record {
       one = λ a b i j f. ap (λ (x : Issued). x.request.bits) (one_each (λ (x : Issued). x.key) (gathered l m xs) a b (gathered_rise l m xs sd) i j f);

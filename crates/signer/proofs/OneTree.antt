@@ -69,7 +69,7 @@ was_given l m (sign c w ∷ xs) a i =
     ]
 
 pub never_twice_lem : NeverTwice
-never_twice_lem l m xs i b c s _ _ g h =
+never_twice_lem l m xs i b c s g h =
     let x = gathers l m xs i b g in
     let y = gathers l m xs i c h in
     let e = one_each (λ (a : Issued). a.key) (gathered l m xs) x.0 y.0 (gathered_rise l m xs s) x.1 y.1 (x.2 ∙ sym y.2) in

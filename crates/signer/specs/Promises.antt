@@ -37,7 +37,7 @@ OneRow = (m : List ℕ) (qs : List Request) (a b : Issued) → In a (given m qs)
 abbrev pub ReserveAsSign : Type 0
 ReserveAsSign = (l w : ℕ) (m : List ℕ) → (reserve_answer l m w ≡ answer l m 1 w) × (reserve_stored l m w ≡ stored l m 1 w)
 
--- whoever shows an accepted signature that its key did not give has, in it, a secret number of the signer's that no signature given out in the run holds in any of its parts; or two rows hash to the same, one of the signer's own tree and one that looking hashes or that is the signer's too. The signer is one tree: all that it gave is for l levels and n bits
+-- whoever shows an accepted signature that its key did not give has, in it, a secret number of the signer's that no signature given out in the run holds among its numbers; or two rows hash to the same, one of the signer's own tree and one that looking hashes or that is the signer's too. The signer is one tree: all that it gave is for l levels and n bits
 abbrev pub MustKnowLocated : Type 0
 MustKnowLocated =
     (h : Mix) (s l n k : ℕ) (m : List ℕ) (qs : List Request) (bs : List Bool) (g : Signature) → 1 ≤ n →

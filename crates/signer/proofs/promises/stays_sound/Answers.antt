@@ -1,6 +1,6 @@
--- As proved in Counting, with no bound on the next key.
+-- As proved in Counting.
 use Rattle.counter.proofs.Counting.{kept}
 use Rattle.signer.proofs.promises.stays_sound.Goals as goal
 
 pub returns : goal.returns
-returns c m n s small = let k = kept n m s in (k.0, k.1, k.3)
+returns c m n s = let k = kept n m s in (k.0, k.1, k.3)
