@@ -5,4 +5,5 @@ mod Hexes
 pub mod Lines
 pub mod Newlines
 pub mod Pieces
+mod Prefixes
 pub mod Printed

@@ -14,6 +14,10 @@ pub record FirstWord {V : Type 0} (spells : List ℕ → V → Type 0) (cs w : L
   pub stops : Stops rest
   pub spelled : spells w v
 
+-- a text begins with a space and a word that spells a value
+abbrev pub Begins : {V : Type 0} → (spells : List ℕ → V → Type 0) → List ℕ → Type 0
+Begins {V = V} spells cs = (w : List ℕ) × (v : V) × (rest : List ℕ) × FirstWord spells cs w v rest
+
 -- a text is words with no space in them, each after one space, and they spell these values
 abbrev pub SpacedWords : {V : Type 0} → (spells : List ℕ → V → Type 0) → List ℕ → List V → Type 0
 SpacedWords spells cs vs = (ws : List (List ℕ)) × (cs ≡ flat_map (λ w. 32 ∷ w) ws) × AllZip (λ w v. LacksByte 32 w × spells w v) ws vs

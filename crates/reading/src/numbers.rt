@@ -1,7 +1,10 @@
 // A line of numbers: a word, and each number in sixteens after one space.
-ghost use Rattle.std.specs.Prelude.{◌≡◌, map, IfOk};
+ghost use Rattle.std.specs.Prelude.{◌≡◌, List, ℕ, ◌++◌, map, IfOk, IsErr};
+ghost use Rattle.hash.specs.Hex.{hex};
 ghost use Rattle.hash.specs.Value.{value_of};
+ghost use Rattle.hash.specs.declared.number.Number.{Number};
 ghost use Rattle.reading.specs.Reading.{ReadsAs};
+ghost use Rattle.reading.specs.Spaced.{Begins};
 ghost use Rattle.signatures.specs.Lines.{numbers_line};
 
 use crate::spaced::read_words;
@@ -9,13 +12,14 @@ use crate::words::after;
 use hash::Number;
 use std::alloc::{AllocError, Global};
 
-// The numbers of a line that begins with a word, if it is one.
+// The numbers of a line that begins with a word, if it is one. Memory is asked for only once a number was read.
 pub fn read_numbers(
     heap: Global,
     word: &[u8],
     line: &[u8],
 ) -> Result<Option<Vec<Number>>, AllocError>
-    ensures { IfOk result (ReadsAs (λ vs. line.now ≡ numbers_line word.now vs) (λ v. map value_of v.items)) }
+    ensures read { IfOk result (ReadsAs (λ vs. line.now ≡ numbers_line word.now vs) (λ v. map value_of v.items)) }
+    ensures asked { IsErr result → (rest : List ℕ) × (line.now ≡ word.now ++ rest) × Begins (λ w (n : Number). w ≡ hex n.bytes) rest }
 {
     match after(line, word) {
         Some(rest) => read_words(heap, rest),
