@@ -1,10 +1,8 @@
 // A line of numbers: a word, and each number in sixteens after one space.
-ghost use Rattle.std.specs.Prelude.{◌≡◌, List, ℕ, ◌++◌, map, IfOk, IsErr};
-ghost use Rattle.hash.specs.Hex.{hex};
+ghost use Rattle.std.specs.Prelude.{◌≡◌, map, IfOk, IsErr};
 ghost use Rattle.hash.specs.Value.{value_of};
-ghost use Rattle.hash.specs.declared.number.Number.{Number};
 ghost use Rattle.reading.specs.Reading.{ReadsAs};
-ghost use Rattle.reading.specs.Spaced.{Begins};
+ghost use Rattle.reading.specs.Spaced.{NumbersBegin};
 ghost use Rattle.signatures.specs.Lines.{numbers_line};
 
 use crate::spaced::read_words;
@@ -19,7 +17,7 @@ pub fn read_numbers(
     line: &[u8],
 ) -> Result<Option<Vec<Number>>, AllocError>
     ensures read { IfOk result (ReadsAs (λ vs. line.now ≡ numbers_line word.now vs) (λ v. map value_of v.items)) }
-    ensures asked { IsErr result → (rest : List ℕ) × (line.now ≡ word.now ++ rest) × Begins (λ w (n : Number). w ≡ hex n.bytes) rest }
+    ensures asked { IsErr result → NumbersBegin word.now line.now }
 {
     match after(line, word) {
         Some(rest) => read_words(heap, rest),

@@ -7,10 +7,14 @@ use Rattle.reading.proofs.Cuts.{begun, rest_words, one_more, word_read}
 use Rattle.reading.proofs.spaced.read_words.Goals as goal
 
 pub returns-in_default-clause-read : goal.returns-in_default-clause-read
-returns-in_default-clause-read g c vs s =
+returns-in_default-clause-read g c =
+    let spells = g.T.FromWord.spells in
+    let refused : (vs : List g.row.T.Denot) → SpacedWords spells c.args.text.now vs → ⊥ =
+    λ vs s.
     let k = c.loop-left.invariant.1 vs s in
     let none = eqb-false _ _ (sym c.is_empty.ensures ∙ c.loop-left-test.true) in
-    let f = begun g.T.FromWord.spells c.loop-left.left.now k.0 (omega arith) k.1 in c.in_default.ensures f.0 f.1 f.2 f.4
+    let f = begun spells c.loop-left.left.now k.0 (omega arith) k.1 in c.in_default.ensures f.0 f.1 f.2 f.4 in
+    refused
 
 pub loop-left-preserved : goal.loop-left-preserved
 loop-left-preserved g c =
