@@ -1,12 +1,12 @@
 -- Words: where one ends, that a text is cut into them in one way only, and that numbers are written as words.
-use Rattle.std.proofs.Common.{◌≡◌, ℕ, zero, suc, ◌/◌, ◌%◌, ◌<◌, true, List, [], ◌∷◌, ◌++◌, length, get_or, take, drop, Some, sym, refl, ap, ◌∙◌, subst, inl, inr, arith}
+use Rattle.std.proofs.Common.{◌≡◌, ℕ, zero, suc, ◌/◌, ◌%◌, ◌<◌, ◌⊎◌, true, List, [], ◌∷◌, ◌++◌, length, get_or, take, drop, Some, sym, refl, ap, ◌∙◌, subst, inl, inr, arith}
 use Rattle.std.specs.List.{flat_map}
 use Rattle.std.specs.Str.Iter.{LacksByte}
 use Rattle.std.proofs.lemmas.List.{drop_at, get_or_append_left, length-append, take_at}
 use Rattle.std.proofs.lemmas.Option.{cond_some}
 use Rattle.std.proofs.lemmas.Bool.{and_parts, leb-true}
 use Rattle.std.proofs.lemmas.Bool.Decides.{nat_tests}
-use Rattle.reading.specs.Spaced.{Stops, FirstWord, SpacedWords}
+use Rattle.reading.specs.Spaced.{Stops, FirstWord, Begins, SpacedWords}
 use Rattle.hash.specs.Hex.{hex_digit, hex}
 use Rattle.hash.specs.Members.{In}
 use Rattle.reading.specs.Spelling.{WordEnd, is_digit, all_digits, digits_value, decimal_of}
@@ -103,3 +103,8 @@ module _ {V : Type 0} (spells : List ℕ → V → Type 0) where
 
   pub one_more : (left w rest : List ℕ) (v : V) (vs : List V) → FirstWord spells left w v rest → SpacedWords spells rest vs → SpacedWords spells left (v ∷ vs)
   one_more left w rest v vs f s = (w ∷ s.0, f.text ∙ ap (λ (r : List ℕ). 32 ∷ (w ++ r)) s.1, ((f.whole, f.spelled), s.2))
+
+  -- the first word that is read, or any behind it, shows that the text begins with one
+  pub word_read : (text left w rest : List ℕ) (v : V) → (left ≡ text) ⊎ Begins spells text → FirstWord spells left w v rest → Begins spells text
+  word_read text left w rest v (inl all) f = (w, v, rest, subst (λ (t : List ℕ). FirstWord spells t w v rest) all f)
+  word_read text left w rest v (inr begins) f = begins

@@ -5,5 +5,6 @@ mod Hexes
 pub mod Lines
 pub mod Newlines
 pub mod Pieces
+mod Prefixes
 pub mod Printed
 mod Rejoined

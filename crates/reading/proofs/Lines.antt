@@ -16,7 +16,7 @@ abbrev pub spaced : Number → List ℕ
 spaced n = 32 ∷ hex n.bytes
 
 -- a number is written by its meaning
-pub by_values : (ns : List Number) → flat_map spaced ns ≡ flat_map (λ v. 32 ∷ hex (bytes_of v)) (map value_of ns)
+by_values : (ns : List Number) → flat_map spaced ns ≡ flat_map (λ v. 32 ∷ hex (bytes_of v)) (map value_of ns)
 by_values [] = refl
 by_values (n ∷ ns) = let b = bytes_back n in let r = by_values ns in cc
 

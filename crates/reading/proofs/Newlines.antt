@@ -31,7 +31,7 @@ lines_cut (c ∷ l) cs a =
     cond-false _ _ _ (ne_eqb c 10 (a 0 (omega arith))) ∙ ap (in_front c) (lines_cut l cs (λ j h. a (suc j) (omega arith)))
 
 -- a last line with no newline behind it
-pub lines_last : (l : List ℕ) → 0 < length l → LacksByte 10 l → lines_of l ≡ l ∷ []
+lines_last : (l : List ℕ) → 0 < length l → LacksByte 10 l → lines_of l ≡ l ∷ []
 lines_last [] h a = absurd (omega arith)
 lines_last (c ∷ []) h a = cond-false _ _ _ (ne_eqb c 10 (a 0 (omega arith)))
 lines_last (c ∷ (d ∷ l)) h a =

@@ -1,5 +1,7 @@
 -- Words, each after one space. Assumes nothing: these are definitions.
 use Rattle.std.specs.Prelude.{◌≡◌, ℕ, ◌<◌, List, ◌∷◌, ◌++◌, length, decimal, slice_index}
+use Rattle.hash.specs.Hex.{hex}
+use Rattle.hash.specs.declared.number.Number.{Number}
 use Rattle.std.specs.List.{flat_map, AllZip}
 use Rattle.std.specs.Str.Iter.{LacksByte}
 
@@ -13,6 +15,14 @@ pub record FirstWord {V : Type 0} (spells : List ℕ → V → Type 0) (cs w : L
   pub whole : LacksByte 32 w
   pub stops : Stops rest
   pub spelled : spells w v
+
+-- a text begins with a space and a word that spells a value
+abbrev pub Begins : {V : Type 0} → (spells : List ℕ → V → Type 0) → List ℕ → Type 0
+Begins {V = V} spells cs = (w : List ℕ) × (v : V) × (rest : List ℕ) × FirstWord spells cs w v rest
+
+-- a line begins with a word and, behind one space, a number in sixteens
+abbrev pub NumbersBegin : (word line : List ℕ) → Type 0
+NumbersBegin word line = (rest : List ℕ) × (line ≡ word ++ rest) × Begins (λ w (n : Number). w ≡ hex n.bytes) rest
 
 -- a text is words with no space in them, each after one space, and they spell these values
 abbrev pub SpacedWords : {V : Type 0} → (spells : List ℕ → V → Type 0) → List ℕ → List V → Type 0

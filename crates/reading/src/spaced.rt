@@ -1,7 +1,7 @@
 // Words, each after one space, read as values of one type.
-ghost use Rattle.std.specs.Prelude.{◌≡◌, ℕ, ◌^◌, List, Some, IfOk, MatchOption};
+ghost use Rattle.std.specs.Prelude.{◌≡◌, ℕ, ◌^◌, List, Some, IfOk, IsErr, MatchOption};
 ghost use Rattle.reading.specs.Reading.{Reads, ReadsAs};
-ghost use Rattle.reading.specs.Spaced.{FirstWord, SpacedWords};
+ghost use Rattle.reading.specs.Spaced.{FirstWord, Begins, SpacedWords};
 ghost use Rattle.hash.specs.Hex.{hex};
 ghost use Rattle.reading.specs.Spelling.{decimal_of};
 
@@ -48,9 +48,10 @@ fn first_value<T: FromWord>(text: &[u8]) -> Option<(T, &[u8])>
     Some((T::from_word(word)?, rest))
 }
 
-// The values of a text that is words, each after one space, if all of them spell one.
+// The values of a text that is words, each after one space, if all of them spell one. Memory is asked for only once a word was read.
 pub fn read_words<T: FromWord>(heap: Global, text: &[u8]) -> Result<Option<Vec<T>>, AllocError>
-    ensures { IfOk result (ReadsAs (SpacedWords T.spells text.now) (λ v. v.items)) }
+    ensures read { IfOk result (ReadsAs (SpacedWords T.spells text.now) (λ v. v.items)) }
+    ensures asked { IsErr result → Begins T.spells text.now }
 {
     let mut left = text;
     let mut values = Vec::new(heap);

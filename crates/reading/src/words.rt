@@ -4,6 +4,7 @@ ghost use Rattle.reading.specs.Reading.{ReadsAs};
 ghost use Rattle.reading.specs.Spelling.{WordEnd};
 
 // What follows a word that a line begins with.
+#[tactic(auto, using(crate::proofs::Prefixes::prefixes))]
 pub fn after<'a>(line: &'a [u8], word: &[u8]) -> Option<&'a [u8]>
     ensures { ReadsAs (λ rest. line.now ≡ word.now ++ rest) (λ rest. rest.now) result }
 {

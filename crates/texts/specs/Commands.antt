@@ -1,11 +1,13 @@
 -- How the lines that ask for something are written. Assumes nothing: these are definitions.
-use Rattle.std.specs.Prelude.{◌≡◌, ℕ, ◌^◌, Bool, eqb, List, ◌∷◌, ◌++◌, map, Some, vec_items, codes}
+use Rattle.std.specs.Prelude.{◌≡◌, ℕ, ◌^◌, Bool, eqb, ◌⊎◌, List, ◌∷◌, ◌++◌, map, Some, vec_items, codes}
 use Rattle.tree.specs.declared.own.Tree.{Tree}
 use Rattle.std.specs.List.{flat_map, starts_with}
 use Rattle.std.specs.Str.Iter.{LacksByte}
 use Rattle.hash.specs.Members.{In}
 use Rattle.hash.specs.Value.{value_of}
+use Rattle.hash.specs.declared.number.Number.{Number}
 use Rattle.hash.specs.Hex.{hex}
+use Rattle.reading.specs.Spaced.{Begins}
 use Rattle.reading.specs.Spelling.{decimal_of, Plain}
 use Rattle.texts.specs.declared.command.Command.{Command}
 use Rattle.texts.specs.declared.command.Command.TheVariants.{Store, Levels, Root, Sign, Look, Power, Slot, State}
@@ -38,6 +40,13 @@ Spelled cs (Look r t) = cs ≡ codes "look " ++ (hex r.bytes ++ (codes " " ++ ve
 Spelled cs (Power k) = (ds : List ℕ) × (cs ≡ codes "power " ++ ds) × (decimal_of (2 ^ 64) ds ≡ Some k)
 Spelled cs Slot = cs ≡ codes "slot"
 Spelled cs State = cs ≡ codes "state"
+
+-- a line that memory is asked for: for the text of a `sign` or of a `look`, or for the numbers of a `store`
+abbrev pub AsksMemory : List ℕ → Type 0
+AsksMemory cs =
+    ((t : List ℕ) × (cs ≡ codes "sign " ++ t))
+    ⊎ ((r : Number) × (t : List ℕ) × (cs ≡ codes "look " ++ (hex r.bytes ++ (codes " " ++ t))))
+    ⊎ ((rest : List ℕ) × (cs ≡ codes "store" ++ rest) × Begins (λ w v. decimal_of (2 ^ 32) w ≡ Some v) rest)
 
 -- a command is the store of these numbers
 abbrev pub IsStoreOf : List ℕ → Command → Type 0

@@ -1,5 +1,5 @@
 -- The four lines of a signature, as they are read. Assumes nothing: these are definitions.
-use Rattle.std.specs.Prelude.{◌≡◌, ℕ, zero, suc, ◌+◌, ◌^◌, ◌<◌, min, List, [], ◌∷◌, ◌++◌, map, get_or, Some, Ok, Err, vec_items, codes, Result}
+use Rattle.std.specs.Prelude.{◌≡◌, ℕ, zero, suc, ◌+◌, ◌^◌, ◌<◌, ◌⊎◌, min, List, [], ◌∷◌, ◌++◌, map, get_or, Some, Ok, Err, vec_items, codes, Result}
 use Rattle.hash.specs.Members.{In}
 use Rattle.hash.specs.Value.{value_of}
 use Rattle.keys.specs.declared.refusal.Refusal.{Refusal}
@@ -7,6 +7,7 @@ use Rattle.keys.specs.declared.refusal.Refusal.TheVariants.{Line}
 use Rattle.signatures.specs.Signatures.{Signature, numbers}
 use Rattle.signatures.specs.Lines.{numbers_line}
 use Rattle.reading.specs.Newlines.{lines_of}
+use Rattle.reading.specs.Spaced.{NumbersBegin}
 use Rattle.reading.specs.Spelling.{decimal_of, Plain}
 use Rattle.texts.specs.declared.signature.ReadSignature.{ReadSignature}
 use Rattle.texts.specs.declared.signature.SignatureLines.{SignatureLines}
@@ -66,6 +67,10 @@ abbrev pub SignatureRead : SignatureLines → Result ReadSignature Refusal → T
 SignatureRead t (Ok s) = LinesOf (signature_of s) t
 SignatureRead t (Err r) =
     (k : ℕ) × (k < 4) × ((j : ℕ) → j < k → Readable t j) × (Readable t k → ⊥) × (r ≡ Line (line_after t.first k))
+
+-- there is a number behind the word of some line
+abbrev pub HasNumbers : SignatureLines → Type 0
+HasNumbers t = NumbersBegin (codes "parts") t.parts.now ⊎ NumbersBegin (codes "others") t.others.now ⊎ NumbersBegin (codes "path") t.path.now
 
 -- its numbers are numbers of the program
 abbrev pub Fits : Signature → Type 0

@@ -1,8 +1,8 @@
 // The lines that ask for something.
-ghost use Rattle.std.specs.Prelude.{◌≡◌, ℕ, ◌^◌, ◌<◌, true, List, ◌++◌, IfOk, IfSome, IsSomeAnd, codes, MatchOption, slice_index};
+ghost use Rattle.std.specs.Prelude.{◌≡◌, ℕ, ◌^◌, ◌<◌, true, List, ◌++◌, IfOk, IsErr, IfSome, IsSomeAnd, codes, MatchOption, slice_index};
 ghost use Rattle.hash.specs.declared.number.Number.{Number};
 ghost use Rattle.tree.specs.declared.own.Tree.{Tree};
-ghost use Rattle.texts.specs.Commands.{DecimalBefore, LevelsSpelled, Spelled, takes_four, IsStoreOf, PlainStore};
+ghost use Rattle.texts.specs.Commands.{DecimalBefore, LevelsSpelled, Spelled, takes_four, AsksMemory, IsStoreOf, PlainStore};
 ghost use Rattle.reading.specs.Reading.{Reads};
 ghost use Rattle.reading.specs.Spaced.{counts_line};
 ghost use Rattle.hash.specs.Members.{In};
@@ -58,7 +58,8 @@ fn read_levels(text: &[u8]) -> Option<Tree>
 
 // What follows the word `look` and a space: a root in sixteens, a space and a text. No `Reads`, since what it is and what it is not are said of different values.
 fn read_look(heap: Global, text: &[u8]) -> Result<Option<Command>, AllocError>
-    ensures { IfOk result (λ o. MatchOption o ((n : Number) (t : List ℕ) → text.now ≡ hex n.bytes ++ (codes " " ++ t) → ⊥) (λ c. ((cs : List ℕ) → cs ≡ codes "look " ++ text.now → Spelled cs c))) }
+    ensures read { IfOk result (λ o. MatchOption o ((n : Number) (t : List ℕ) → text.now ≡ hex n.bytes ++ (codes " " ++ t) → ⊥) (λ c. ((cs : List ℕ) → cs ≡ codes "look " ++ text.now → Spelled cs c))) }
+    ensures asked { IsErr result → (n : Number) × (t : List ℕ) × (text.now ≡ hex n.bytes ++ (codes " " ++ t)) }
 {
     let (word, rest) = text.split_at(word_end(text));
     let (Some(root), Some(text)) = (read_hex(word), after(rest, b" ")) else {
@@ -67,9 +68,10 @@ fn read_look(heap: Global, text: &[u8]) -> Result<Option<Command>, AllocError>
     Ok(Some(Command::Look(root, Vec::from_slice(heap, text)?)))
 }
 
-// The command that a line is, if it is one. A store that is printed is read back, and what is read is printed as it was but for zeros in front.
+// The command that a line is, if it is one. A store that is printed is read back, and what is read is printed as it was but for zeros in front. Memory is asked for only for the text of a `sign` or a `look` and the numbers of a `store`, so no other line can fail.
 pub fn read_command(heap: Global, line: &[u8]) -> Result<Option<Command>, AllocError>
     ensures read { IfOk result (Reads (Spelled line.now)) }
+    ensures asked { IsErr result → AsksMemory line.now }
     ensures back { (vs : List ℕ) → ((v : ℕ) → In v vs → v < 2 ^ 32) → line.now ≡ counts_line (codes "store") vs → IfOk result (λ o. IsSomeAnd o (IsStoreOf vs)) }
     ensures again { IfOk result (λ o. IfSome o (λ c. (vs : List ℕ) → IsStoreOf vs c → PlainStore line.now → line.now ≡ counts_line (codes "store") vs)) }
 {

@@ -6,7 +6,7 @@ ghost use Rattle.signatures.specs.Lines.{signature_text};
 ghost use Rattle.signatures.specs.Signatures.{Signature};
 ghost use Rattle.signatures.specs.Views.{viewed};
 ghost use Rattle.reading.specs.Reading.{Reads};
-ghost use Rattle.texts.specs.SignatureLines.{line_at, line_after, signature_of, KeySpelled, LinesAre, SignatureRead, Fits, FourLines, KeyPlain};
+ghost use Rattle.texts.specs.SignatureLines.{line_at, line_after, signature_of, KeySpelled, LinesAre, SignatureRead, Readable, HasNumbers, Fits, FourLines, KeyPlain};
 ghost use Rattle.texts.specs.declared.signature.ReadError.TheVariants.{Refused, Memory};
 
 use hash::Number;
@@ -108,10 +108,11 @@ impl<'a> SignatureLines<'a> {
         Refusal::Line(self.first.saturating_add(after))
     }
 
-    // The signature, or the refusal of the first line that cannot be read. What is printed is read back, and what is read is printed as it was but for zeros in front of the key.
+    // The signature, or the refusal of the first line that cannot be read; memory is asked for only behind a first line that was read, and for the numbers of a line. What is printed is read back, and what is read is printed as it was but for zeros in front of the key.
     pub fn read(&self, heap: Global) -> Result<ReadSignature, ReadError>
         ensures read { IfOk result (λ s. SignatureRead self.now (Ok s)) }
         ensures refused { (r : Refusal) → IsErrOf result (Refused r) → SignatureRead self.now (Err r) }
+        ensures asked { (a : AllocError) → IsErrOf result (Memory a) → Readable self.now 0 × HasNumbers self.now }
         ensures back { (g : Signature) → Fits g → FourLines self.now (signature_text g) → MatchResult result (λ s. signature_of s ≡ g) (λ e. (r : Refusal) → e ≢ Refused r) }
         ensures again { IfOk result (λ s. KeyPlain self.now → FourLines self.now (signature_text (signature_of s))) }
     {

@@ -1,5 +1,5 @@
 -- What begins as a command and cannot be read on is none; nothing follows the word `root`.
-use Rattle.std.proofs.Common.{◌≡◌, ℕ, List, sym, Some, None, Option, MatchOption, IsSomeAnd, vec_items, subst}
+use Rattle.std.proofs.Common.{◌≡◌, ℕ, List, ◌++◌, sym, ap, ◌∙◌, inl, inr, codes, Some, None, Option, MatchOption, IsSomeAnd, vec_items, subst}
 use Rattle.texts.specs.Commands.{Spelled}
 use Rattle.texts.specs.declared.command.Command.{Command}
 use Rattle.texts.proofs.Cuts.{stored, stored_words}
@@ -24,7 +24,7 @@ pub returns-in-Some-after-3-clause-read : goal.returns-in-Some-after-3-clause-re
 returns-in-Some-after-3-clause-read c =
     let text = c.in-Some-after-3.text.now in
     let e = c.in-Some-after-3.ensures in
-    mapped c.args.line.now c.in_ok-read_words.field-0 c.map-in-Some-after-3.result c.map-in-Some-after-3.ensures.cases c.in_ok-read_words.ensures
+    mapped c.args.line.now c.in_ok-read_words.field-0 c.map-in-Some-after-3.result c.map-in-Some-after-3.ensures.cases c.in_ok-read_words.ensures.read
     (λ none. no_store c.args.line.now text e (λ vs s. none vs (stored_words text vs s)))
     (λ v d f s. subst (λ (k : Command). Spelled c.args.line.now k) (sym f) (text, e, stored text (vec_items v) s))
 
@@ -33,7 +33,11 @@ returns-in-Some-after-2-clause-again c = store_again c.args.line.now c.map.resul
 
 pub returns-in-Some-after-3-clause-back : goal.returns-in-Some-after-3-clause-back
 returns-in-Some-after-3-clause-back c vs b p =
-    store_back c.args.line.now c.in-Some-after-3.text.now vs c.in_ok-read_words.field-0 c.map-in-Some-after-3.result c.map-in-Some-after-3.ensures.cases c.in_ok-read_words.ensures c.in-Some-after-3.ensures b p
+    store_back c.args.line.now c.in-Some-after-3.text.now vs c.in_ok-read_words.field-0 c.map-in-Some-after-3.result c.map-in-Some-after-3.ensures.cases c.in_ok-read_words.ensures.read c.in-Some-after-3.ensures b p
 
 pub returns-in-Some-after-3-clause-again : goal.returns-in-Some-after-3-clause-again
 returns-in-Some-after-3-clause-again c = store_again c.args.line.now c.map-in-Some-after-3.result (returns-in-Some-after-3-clause-read c)
+
+pub returns-in-Some-after-clause-asked : goal.returns-in-Some-after-clause-asked
+returns-in-Some-after-clause-asked c e =
+    let look = c.read_look.ensures.asked e in inr (inl (look.0, look.1, c.in-Some-after.ensures ∙ ap (λ (t : List ℕ). codes "look " ++ t) look.2))

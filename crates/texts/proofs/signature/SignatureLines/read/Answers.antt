@@ -30,11 +30,11 @@ returns-in_err-path-clause-refused c r e =
     let is = handed_on c.from_residual-in_err-path.result c.in_ok-read_numbers-3.field-0 c.in_err-path.field-0.0 c.refusal-4.result r c.in_err-path.ensures.value none c.from_residual-in_err-path.ensures.1 e in
     let key = MatchOption-at_some _ _ c.in_ok-key.key c.in_ok-key.ensures.ok_part c.read_key.ensures in
     let one = below_more (Readable t) 0 (below_none (Readable t)) (c.in_ok-key.key, key) in
-    let parts = MatchOption-at_some _ _ c.in_ok-parts.parts c.in_ok-parts.ensures.ok_part c.in_ok-read_numbers.ensures in
+    let parts = MatchOption-at_some _ _ c.in_ok-parts.parts c.in_ok-parts.ensures.ok_part c.in_ok-read_numbers.ensures.read in
     let two = below_more (Readable t) 1 one (map value_of (vec_items c.in_ok-parts.parts), parts) in
-    let others = MatchOption-at_some _ _ c.in_ok-others.others c.in_ok-others.ensures.ok_part c.in_ok-read_numbers-2.ensures in
+    let others = MatchOption-at_some _ _ c.in_ok-others.others c.in_ok-others.ensures.ok_part c.in_ok-read_numbers-2.ensures.read in
     let three = below_more (Readable t) 2 two (map value_of (vec_items c.in_ok-others.others), others) in
-    (3, omega arith, three, λ vs. MatchOption-at_none _ _ none c.in_ok-read_numbers-3.ensures vs.0 vs.1, is ∙ c.refusal-4.ensures)
+    (3, omega arith, three, λ vs. MatchOption-at_none _ _ none c.in_ok-read_numbers-3.ensures.read vs.0 vs.1, is ∙ c.refusal-4.ensures)
 
 -- a line of what was printed is read, so it is not refused
 pub returns-in_err-key-clause-back : goal.returns-in_err-key-clause-back
@@ -43,19 +43,19 @@ returns-in_err-key-clause-back c g f l =
 
 pub returns-in_err-parts-clause-back : goal.returns-in_err-parts-clause-back
 returns-in_err-parts-clause-back c g f l =
-    absurd (MatchOption-at_none _ _ c.in_err-parts.ensures.ok_part c.in_ok-read_numbers.ensures g.parts (spelled_back c.args.self.now g f l).1)
+    absurd (MatchOption-at_none _ _ c.in_err-parts.ensures.ok_part c.in_ok-read_numbers.ensures.read g.parts (spelled_back c.args.self.now g f l).1)
 
 pub returns-in_err-others-clause-back : goal.returns-in_err-others-clause-back
 returns-in_err-others-clause-back c g f l =
-    absurd (MatchOption-at_none _ _ c.in_err-others.ensures.ok_part c.in_ok-read_numbers-2.ensures g.others (spelled_back c.args.self.now g f l).2)
+    absurd (MatchOption-at_none _ _ c.in_err-others.ensures.ok_part c.in_ok-read_numbers-2.ensures.read g.others (spelled_back c.args.self.now g f l).2)
 
 pub returns-in_err-path-clause-back : goal.returns-in_err-path-clause-back
 returns-in_err-path-clause-back c g f l =
-    absurd (MatchOption-at_none _ _ c.in_err-path.ensures.ok_part c.in_ok-read_numbers-3.ensures g.path (spelled_back c.args.self.now g f l).3)
+    absurd (MatchOption-at_none _ _ c.in_err-path.ensures.ok_part c.in_ok-read_numbers-3.ensures.read g.path (spelled_back c.args.self.now g f l).3)
 
 pub returns-clause-read : goal.returns-clause-read
 returns-clause-read c =
-    (MatchOption-at_some _ _ c.in_ok-key.key c.in_ok-key.ensures.ok_part c.read_key.ensures, MatchOption-at_some _ _ c.in_ok-parts.parts c.in_ok-parts.ensures.ok_part c.in_ok-read_numbers.ensures, MatchOption-at_some _ _ c.in_ok-others.others c.in_ok-others.ensures.ok_part c.in_ok-read_numbers-2.ensures, MatchOption-at_some _ _ c.in_ok-path.path c.in_ok-path.ensures.ok_part c.in_ok-read_numbers-3.ensures)
+    (MatchOption-at_some _ _ c.in_ok-key.key c.in_ok-key.ensures.ok_part c.read_key.ensures, MatchOption-at_some _ _ c.in_ok-parts.parts c.in_ok-parts.ensures.ok_part c.in_ok-read_numbers.ensures.read, MatchOption-at_some _ _ c.in_ok-others.others c.in_ok-others.ensures.ok_part c.in_ok-read_numbers-2.ensures.read, MatchOption-at_some _ _ c.in_ok-path.path c.in_ok-path.ensures.ok_part c.in_ok-read_numbers-3.ensures.read)
 
 pub returns-clause-back : goal.returns-clause-back
 returns-clause-back c g f l = read_back c.args.self.now (record { key = c.in_ok-key.key; parts = c.in_ok-parts.parts; others = c.in_ok-others.others; path = c.in_ok-path.path }) (returns-clause-read c) g f l
