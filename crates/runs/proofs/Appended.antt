@@ -1,5 +1,5 @@
 -- What writers take, one write after the other.
-use Rattle.std.proofs.Common.{◌≡◌, ℕ, zero, suc, inl, inr, List, [], ◌++◌, take, None, Some, Ok, Err, Option, Result, sym, refl, ap, ◌∙◌, subst, append_assoc, append-nil}
+use Rattle.std.proofs.Common.{◌≡◌, ℕ, zero, suc, inl, inr, List, [], ◌++◌, take, None, Some, Ok, Err, Option, Result, IsErr, OnOk, sym, refl, ap, ◌∙◌, subst, append_assoc, append-nil}
 use Rattle.std.specs.Io.KnownBytes.{Appends, Keeps, WriteAppends}
 use Rattle.runs.specs.Runs.{Gone, AppendsFront}
 
@@ -34,3 +34,8 @@ gone_taken i z a b bytes (Ok zero) k p g = absurd g
 gone_taken i z a b bytes (Ok (suc n)) k p g = subst (λ (j : ℕ). Appends a b (take j bytes)) (sym (same_Ok (Ok k) refl g)) p
 gone_taken i z a b bytes (Err e) k p (inl (is, g)) = subst (λ (j : ℕ). Appends a b (take j bytes)) (sym (same_Ok (Ok k) refl g)) (keeps_nothing a b p)
 gone_taken i z a b bytes (Err e) k p (inr (other, g)) = absurd cc
+
+-- what failed need not say what an answer says that went well
+pub err_of : {T E : Type 0} (P : Type 0) (r : Result T E) → IsErr r → OnOk r P
+err_of P (Ok x) e = absurd cc
+err_of P (Err x) e = tt
