@@ -1,5 +1,5 @@
 -- A run: the bytes that are read and those that are printed. Assumes nothing: these are definitions.
-use Rattle.std.specs.Prelude.{◌≡◌, ℕ, ◌⊎◌, List, [], ◌∷◌, ◌++◌, map, Option, Result, IfSome, OnOk}
+use Rattle.std.specs.Prelude.{◌≡◌, ℕ, zero, suc, ◌⊎◌, List, [], ◌∷◌, ◌++◌, map, Ok, Err, Option, Result, IfSome, OnOk, MatchResult}
 use Rattle.std.specs.List.{flat_map}
 use Rattle.std.specs.Io.KnownBytes.{Appends}
 use Rattle.reading.specs.Newlines.{lines_of}
@@ -7,6 +7,12 @@ use Rattle.sessions.specs.declared.session.Session.{Session}
 use Rattle.runs.specs.Turns.{turns_of, Turn, bytes_printed}
 use Rattle.runs.specs.Steps.{Ran, Fresh}
 use Rattle.runs.specs.Promises.{Promised}
+
+-- How many bytes are gone, by what a write of some said: as many as it took; none where it was interrupted, so that the same are written again; an error of its own where it took none, and the same one where it failed
+abbrev pub Gone : {E : Type 0} → (interrupted none_taken : E → Type 0) → (written gone : Result ℕ E) → Type 0
+Gone interrupted none_taken (Ok zero) r = MatchResult r (λ _. ⊥) none_taken
+Gone interrupted none_taken (Ok (suc n)) r = r ≡ Ok (suc n)
+Gone interrupted none_taken (Err e) r = (interrupted e × (r ≡ Ok 0)) ⊎ ((interrupted e → ⊥) × (r ≡ Err e))
 
 -- a writer took bytes, all but those that are left
 abbrev pub AppendsFront : (before after : Option (List ℕ)) → (bytes left : List ℕ) → Type 0

@@ -1,21 +1,20 @@
 // Reads lines to the end, asks the program, and prints what it answers.
-ghost use Rattle.std.specs.Prelude.{◌≡◌, ℕ, ◌≤◌, List, [], length, IfOk, OnOk, string_bytes};
+ghost use Rattle.std.specs.Prelude.{◌≡◌, ℕ, List, [], OnOk, string_bytes};
 ghost use Rattle.std.specs.Option.{option_map};
-ghost use Rattle.std.specs.Io.KnownBytes.{WriteAppends};
+ghost use Rattle.std.specs.IoError.{error_kind};
 ghost use Rattle.runs.specs.Turns.{bytes_printed};
-ghost use Rattle.runs.specs.Runs.{AppendsFront, Ended};
+ghost use Rattle.runs.specs.Runs.{Gone, AppendsFront, Ended};
 
 use crate::program::Program;
 use std::alloc::Global;
 use std::io;
 use std::io::{BufRead, ErrorKind, Write};
 
-// Writes a front part of bytes, which are some, and gives its length: 0 where the writer was interrupted.
-fn write_some<W: Write>(writer: &mut W, bytes: &[u8]) -> io::Result<usize>
-    ensures bound { IfOk result (λ n. n ≤ length bytes.now) }
-    ensures bytes { WriteAppends (W.contents writer.old) (W.contents writer.new) result bytes.now }
+// How many bytes are gone after a write of some: none where the writer was interrupted, and an error where it took none.
+fn gone(written: io::Result<usize>) -> io::Result<usize>
+    ensures { Gone (λ e. error_kind e ≡ ErrorKind.Interrupted) (λ e. error_kind e ≡ ErrorKind.WriteZero) written result }
 {
-    match writer.write(bytes) {
+    match written {
         Ok(0) => Err(ErrorKind::WriteZero.into()),
         Err(error) if error.kind() == ErrorKind::Interrupted => Ok(0),
         written => written,
@@ -32,7 +31,7 @@ fn write<W: Write>(writer: &mut W, bytes: &[u8]) -> io::Result<()>
         if left.is_empty() {
             return Ok(());
         }
-        let count = write_some(writer, left)?;
+        let count = gone(writer.write(left))?;
         left = &left[count..];
     }
     Err(ErrorKind::TimedOut.into())

@@ -130,3 +130,21 @@ fn output_that_fails(rt: HostRuntime) -> Result<(), Fail> {
     }
     Ok(())
 }
+
+// An answer of some thousand bytes, to an output that is interrupted before each of them.
+#[test]
+fn a_long_answer_byte_by_byte(rt: HostRuntime) -> Result<(), Fail> {
+    let heap = rt.alloc();
+    let numbers = " 1".repeat(heap, 2_000)?;
+    let store = ["store", numbers.as_str(), "\n"].concat(heap)?;
+    let typed = [store.as_str(), "state"].concat(heap)?;
+    let mut writer = Narrow {
+        taken: Vec::new(heap),
+        room: store.len(),
+        interrupted: false,
+        flushed: 0,
+    };
+    run(heap, typed.as_bytes(), &mut writer)?;
+    assert_eq!(rt; writer.taken.as_slice(), store.as_bytes());
+    Ok(())
+}

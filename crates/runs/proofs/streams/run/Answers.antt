@@ -1,11 +1,12 @@
 -- The lines are those of the input, one by one, and the last answer is that to the end of the input.
-use Rattle.std.proofs.Common.{◌≡◌, ℕ, List, [], Ok, Err, Some, Option, Result, OnOk, IsErr, ap, ◌∙◌, subst}
+use Rattle.std.proofs.Common.{◌≡◌, ℕ, List, [], Ok, Err, Some, Option, Result, OnOk, ap, ◌∙◌, subst}
 use Rattle.std.specs.Io.BufRead.{first_piece}
 use Rattle.std.specs.Io.Iter.{split_byte, split_known_bytes, YieldsKnownPiece}
 use Rattle.std.proofs.lemmas.Result.{on_ok_weaker}
 use Rattle.runs.specs.Steps.{Stepped}
 use Rattle.runs.specs.Turns.{bytes_printed}
 use Rattle.runs.specs.declared.program.Program.{Program}
+use Rattle.runs.proofs.Appended.{err_of}
 use Rattle.runs.proofs.Progress.{Known, known_begun, known_more, known_written, known_printed, known_done, known_ended}
 use Rattle.runs.proofs.streams.run.Goals as goal
 
@@ -18,14 +19,10 @@ took {X} {E} bytes b input left left₁ before now r item x line p p₁ o k e f 
     let read = subst (λ (c : ℕ). YieldsKnownPiece {E = E} bytes (first_piece c) c left (Some (Ok x)) left₁) g at in
     known_more input left left₁ before now p p₁ (bytes x) o k read.0 read.1 (subst (λ (l : List ℕ). Stepped p l o p₁) d s)
 
--- what an answer says that went well, and what it need not say that did not
+-- what an answer says that went well
 ok_of : {T E P : Type 0} {x : T} (r : Result T E) → r ≡ Ok x → OnOk r P → P
 ok_of (Ok y) e p = p
 ok_of (Err y) e p = absurd cc
-
-err_of : {T E : Type 0} (P : Type 0) (r : Result T E) → IsErr r → OnOk r P
-err_of P (Ok x) e = absurd cc
-err_of P (Err x) e = tt
 
 pub loop-line-init : goal.loop-line-init
 loop-line-init g c =
