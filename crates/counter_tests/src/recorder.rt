@@ -2,7 +2,8 @@
 ghost use Rattle.std.specs.Prelude.{◌≡◌, None};
 
 use counter::{Cells, Done, NotWritten, Write, reserve_in};
-use std::alloc::Global;
+use std::alloc::{AllocError, Global};
+use std::process::Abort;
 use std::test::Fail;
 
 #[derive(Drop)]
@@ -49,7 +50,7 @@ struct Case {
     left: [u32; 4],
 }
 
-const CASES: [Case; 8] = [
+const CASES: &'static [Case] = &[
     Case {
         store: [0, 3, 0, 3],
         lasts: 9,
@@ -108,22 +109,41 @@ const CASES: [Case; 8] = [
     },
 ];
 
+// The places and the values of writes.
+fn pairs(heap: Global, writes: &[Write]) -> Result<Vec<(usize, u32)>, AllocError> {
+    let mut pairs = Vec::new(heap);
+    for write in writes {
+        pairs.push((write.place, write.value))?;
+    }
+    Ok(pairs)
+}
+
+// A device with a store, which fails behind so many writes.
+fn device_with(heap: Global, store: &[u32; 4], lasts: usize) -> Result<Recorder, AllocError> {
+    let numbers = store.to_vec(heap)?;
+    let made = Vec::new(heap);
+    Ok(Recorder {
+        numbers,
+        made,
+        lasts,
+    })
+}
+
+fn compare_case(rt: &impl Abort, heap: Global, case: &Case) -> Result<(), Fail> {
+    let mut device = device_with(heap, &case.store, case.lasts)?;
+    let done = reserve_in(3, &mut device);
+    let made = pairs(heap, &device.made)?;
+    assert_eq!(rt;
+        (done, made.as_slice(), device.numbers.as_slice()),
+        (case.done, case.writes, case.left.as_slice())
+    );
+    Ok(())
+}
+
 #[test]
 fn writes_in_their_order(rt: HostRuntime) -> Result<(), Fail> {
     for case in CASES {
-        let mut device = Recorder {
-            numbers: case.store.to_vec(rt.alloc())?,
-            made: Vec::new(rt.alloc()),
-            lasts: case.lasts,
-        };
-        assert_eq!(rt; reserve_in(3, &mut device), case.done);
-        let made: Vec<(usize, u32)> = device
-            .made
-            .iter()
-            .map(|write| (write.place, write.value))
-            .collect(rt.alloc())?;
-        assert_eq!(rt; made.as_slice(), case.writes);
-        assert_eq!(rt; device.numbers.as_slice(), case.left.as_slice());
+        compare_case(&rt, rt.alloc(), case)?;
     }
     Ok(())
 }

@@ -1,5 +1,6 @@
 // Many requests to one store, at any levels, while power fails: no key comes twice.
 use counter::{Done, reserve};
+use std::process::Abort;
 
 // A random number from a state, and the next state: Knuth's multiplier, of which the high bits are taken.
 fn random(state: u64) -> (u64, u64) {
@@ -15,6 +16,20 @@ struct Tally {
     keys: u32,
     cuts: u32,
     others: u32,
+}
+
+fn compare_key(rt: &impl Abort, last: Option<u64>, key: u64) {
+    assert!(rt; last < Some(key), "key {key} came after {last:?}");
+}
+
+fn compare_tally(rt: &impl Abort, tally: Tally) {
+    for (count, sort) in [
+        (tally.keys, "keys"),
+        (tally.cuts, "cuts"),
+        (tally.others, "others"),
+    ] {
+        assert!(rt; count > 1000, "{count} {sort}");
+    }
 }
 
 #[test]
@@ -33,7 +48,7 @@ fn no_key_comes_twice(rt: HostRuntime) {
         state = after;
         match reserve(levels % 22, &mut store, lasts % 4) {
             Done::Key(key) => {
-                assert!(rt; last < Some(key), "key {key} came after {last:?}");
+                compare_key(&rt, last, key);
                 last = Some(key);
                 tally.keys = tally.keys.saturating_add(1);
             }
@@ -41,7 +56,5 @@ fn no_key_comes_twice(rt: HostRuntime) {
             Done::Empty | Done::Refused(_) => tally.others = tally.others.saturating_add(1),
         }
     }
-    assert!(rt; tally.keys > 1000, "{} keys", tally.keys);
-    assert!(rt; tally.cuts > 1000, "{} cuts", tally.cuts);
-    assert!(rt; tally.others > 1000, "{} others", tally.others);
+    compare_tally(&rt, tally);
 }

@@ -5,10 +5,10 @@ use std::cmp::Ordering;
 use std::process::Abort;
 
 // The checks of the counts 0 to 9.
-const CHECKS: [u32; 10] = [3, 10, 17, 24, 31, 38, 45, 52, 59, 66];
+const CHECKS: &'static [u32] = &[3, 10, 17, 24, 31, 38, 45, 52, 59, 66];
 
 // How many keys a tree of 0 to 4 levels has.
-const KEYS: [u64; 5] = [1, 2, 4, 8, 16];
+const KEYS: &'static [u64] = &[1, 2, 4, 8, 16];
 
 fn check_of(count: u32) -> u32 {
     CHECKS.get(count as usize).copied().unwrap_or(0)
@@ -88,28 +88,31 @@ fn outcome(key: u64, keys: u64, lasts: u64) -> (Done, usize) {
     }
 }
 
+// The slot that counts, what is answered, and what is left of a store.
+fn expected(a: Slot, b: Slot, keys: u64, lasts: u64) -> (Option<[u32; 2]>, Done, Option<[u32; 4]>) {
+    match row_for(a, b) {
+        None => (
+            None,
+            Done::Refused(Refusal::Store(0)),
+            Some([a.count, a.check(), b.count, b.check()]),
+        ),
+        Some(row) => {
+            let (done, writes) = outcome(u64::from(row.key), keys, lasts);
+            (Some(row.counts), done, row.stores.get(writes).copied())
+        }
+    }
+}
+
 fn compare(rt: &impl Abort, a: Slot, b: Slot, levels: u64, keys: u64, lasts: u64) {
     let before = [a.count, a.check(), b.count, b.check()];
     let mut store = before;
     let counts = slot(&before).first_chunk::<2>().copied();
     let done = reserve(levels, &mut store, lasts);
-    match row_for(a, b) {
-        None => {
-            assert_eq!(rt; counts, None, "{before:?}");
-            assert_eq!(rt; done, Done::Refused(Refusal::Store(0)), "{before:?}");
-            assert_eq!(rt; store, before);
-        }
-        Some(row) => {
-            let (expected, writes) = outcome(u64::from(row.key), keys, lasts);
-            assert_eq!(rt; counts, Some(row.counts), "{before:?}");
-            assert_eq!(rt; done, expected, "{before:?} with power for {lasts}");
-            assert_eq!(rt;
-                Some(store),
-                row.stores.get(writes).copied(),
-                "{before:?} with power for {lasts}"
-            );
-        }
-    }
+    assert_eq!(rt;
+        (counts, done, Some(store)),
+        expected(a, b, keys, lasts),
+        "{before:?} with power for {lasts}"
+    );
 }
 
 #[test]

@@ -1,7 +1,9 @@
 // Input that fails and output that is full: an error, and nothing else is printed.
 use runs::run;
+use std::alloc::Global;
 use std::io;
 use std::io::{BufReader, ErrorKind, Read, Write};
+use std::process::Abort;
 use std::test::Fail;
 
 // An input that is handed out byte by byte, and fails behind the last one.
@@ -69,25 +71,29 @@ const BROKEN: &'static [(&'static [u8], &'static str)] = &[
     (b"state\nlook\n\n\n\nx\n", "store\n5 1\n"),
 ];
 
+// What is printed before the input fails, and which error a run ends with.
+fn run_broken(heap: Global, left: &[u8], output: &mut Vec<u8>) -> io::Result<Option<ErrorKind>> {
+    let reader = BufReader::with_capacity(heap, 8, Broken { left })?;
+    let result = run(heap, reader, output);
+    Ok(result.err().map(|error| error.kind()))
+}
+
+fn compare_broken(rt: &impl Abort, heap: Global, left: &[u8], expected: &str) -> Result<(), Fail> {
+    let mut output = Vec::new(heap);
+    let kind = run_broken(heap, left, &mut output)?;
+    assert_eq!(rt;
+        (kind, output.as_slice()),
+        (Some(ErrorKind::BrokenPipe), expected.as_bytes()),
+        "{}",
+        left.escape_ascii()
+    );
+    Ok(())
+}
+
 #[test]
 fn input_that_fails(rt: HostRuntime) -> Result<(), Fail> {
     for (left, expected) in BROKEN {
-        let reader = BufReader::with_capacity(rt.alloc(), 8, Broken { left })?;
-        let mut output = Vec::new(rt.alloc());
-        let result = run(rt.alloc(), reader, &mut output);
-        let kind = result.err().map(|error| error.kind());
-        assert_eq!(rt;
-            kind,
-            Some(ErrorKind::BrokenPipe),
-            "{}",
-            left.escape_ascii()
-        );
-        assert_eq!(rt;
-            output.as_slice(),
-            expected.as_bytes(),
-            "{}",
-            left.escape_ascii()
-        );
+        compare_broken(&rt, rt.alloc(), left, expected)?;
     }
     Ok(())
 }
@@ -109,26 +115,38 @@ const PRINTED: &'static [u8] = b"store 0 3 0 3\n\
     slot 0 3\n\
     5 8\n";
 
+// Which error a run ends with.
+fn run_narrow(heap: Global, writer: &mut Narrow) -> Option<ErrorKind> {
+    run(heap, TYPED, writer).err().map(|error| error.kind())
+}
+
+fn compare_narrow(rt: &impl Abort, heap: Global, room: usize) {
+    let mut writer = Narrow {
+        taken: Vec::new(heap),
+        room,
+        interrupted: false,
+        flushed: 0,
+    };
+    let kind = run_narrow(heap, &mut writer);
+    let expected = (room < PRINTED.len()).then_some(ErrorKind::WriteZero);
+    // It is flushed where all was taken.
+    let flushed = if expected.is_none() {
+        room
+    } else {
+        writer.flushed
+    };
+    assert_eq!(rt;
+        (kind, Some(writer.taken.as_slice()), writer.flushed),
+        (expected, PRINTED.get(..room), flushed),
+        "room for {room}"
+    );
+}
+
 #[test]
-fn output_that_fails(rt: HostRuntime) -> Result<(), Fail> {
+fn output_that_fails(rt: HostRuntime) {
     for room in 0..=PRINTED.len() {
-        let mut writer = Narrow {
-            taken: Vec::new(rt.alloc()),
-            room,
-            interrupted: false,
-            flushed: 0,
-        };
-        let kind = run(rt.alloc(), TYPED, &mut writer)
-            .err()
-            .map(|error| error.kind());
-        let expected = (room < PRINTED.len()).then_some(ErrorKind::WriteZero);
-        assert_eq!(rt; kind, expected, "room for {room}");
-        assert_eq!(rt; writer.taken.as_slice(), &PRINTED[..room]);
-        if expected.is_none() {
-            assert_eq!(rt; writer.flushed, room);
-        }
+        compare_narrow(&rt, rt.alloc(), room);
     }
-    Ok(())
 }
 
 // An answer of some thousand bytes, to an output that is interrupted before each of them.

@@ -539,15 +539,18 @@ fn typed_and_printed(heap: Global, session: &str) -> Result<(String, String), Al
     Ok((typed, printed))
 }
 
+fn compare_session(rt: &impl Abort, heap: Global, session: &str) -> Result<(), Fail> {
+    let (typed, printed) = typed_and_printed(heap, session)?;
+    compare(rt, heap, typed.as_bytes(), &printed)?;
+    // The last line may lack its newline.
+    let shorter = typed.strip_suffix("\n").unwrap_or("");
+    compare(rt, heap, shorter.as_bytes(), &printed)
+}
+
 #[test]
 fn each_line_and_refusal(rt: HostRuntime) -> Result<(), Fail> {
-    let heap = rt.alloc();
     for session in SESSIONS.split("\n\n") {
-        let (typed, printed) = typed_and_printed(heap, session)?;
-        compare(&rt, heap, typed.as_bytes(), &printed)?;
-        // The last line may lack its newline.
-        let shorter = typed.strip_suffix("\n").unwrap_or("");
-        compare(&rt, heap, shorter.as_bytes(), &printed)?;
+        compare_session(&rt, rt.alloc(), session)?;
     }
     Ok(())
 }

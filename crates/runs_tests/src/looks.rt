@@ -12,7 +12,7 @@ const LOOKED: &'static [u8] = b"levels 0 bits 1 seed 17\n\
     path\n";
 
 // From how many of these bytes on which answer is printed.
-const CUTS: [(usize, &'static str); 13] = [
+const CUTS: &'static [(usize, &'static str)] = &[
     (0, ""),
     (1, "5 0\n"),
     // `levels 0 bits 1 seed 1` can be read
@@ -48,7 +48,6 @@ fn looks_that_are_cut_short(rt: HostRuntime) -> Result<(), Fail> {
 }
 
 // A place in a `look`: what stands before and behind it, the lines that cannot be read there and their answer, and those that can and what is answered then. What stands behind it would be commands.
-#[derive(Clone, Copy)]
 struct Place {
     before: &'static [u8],
     behind: &'static [u8],
@@ -93,7 +92,7 @@ const NUMBERS: &'static [u8] = b"
  ffffffffffffffffffffffffffffffffffffffffffffffffffffffffffffffff
  0123456789abcdef0123456789abcdef0123456789abcdef0123456789abcdef 0000000000000000000000000000000000000000000000000000000000000000";
 
-const PLACES: [Place; 8] = [
+const PLACES: &'static [Place] = &[
     Place {
         before: b"",
         behind: b"\nstore 9 66 9 66\nlevels 1 bits 1 seed 1\npower 2\nsign a deed\n",
@@ -249,7 +248,7 @@ fn typed(heap: Global, before: &[u8], line: &[u8], behind: &[u8]) -> Result<Vec<
 fn compare_each(
     rt: &impl Abort,
     heap: Global,
-    place: Place,
+    place: &Place,
     lines: &[u8],
     answer: &str,
 ) -> Result<(), Fail> {

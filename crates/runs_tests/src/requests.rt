@@ -16,7 +16,7 @@ const POWERS: [&'static str; 5] = [
 ];
 
 // A new store and a tree, and how many keys it has.
-const TREES: [(&'static str, u64); 3] = [
+const TREES: &'static [(&'static str, u64)] = &[
     ("store 0 3 0 3\nlevels 1 bits 1 seed 17\n", 2),
     ("store 0 3 0 3\nlevels 2 bits 1 seed 17\n", 4),
     ("store 0 3 0 3\nlevels 4 bits 1 seed 17\n", 16),
@@ -32,16 +32,27 @@ fn requests(heap: Global, random: &mut Random, tree: &str) -> Result<String, All
     Ok(typed)
 }
 
+fn compare_key(rt: &impl Abort, key: &str, next: u64) -> Result<(), Fail> {
+    assert_eq!(rt; key.parse::<u64>()?, next);
+    Ok(())
+}
+
 // How many keys are printed, each the next one.
 fn count_keys(rt: &impl Abort, printed: &str) -> Result<u64, Fail> {
     let mut next = 0u64;
     for line in printed.lines() {
         if let Some(key) = line.strip_prefix("key ") {
-            assert_eq!(rt; key.parse::<u64>()?, next);
+            compare_key(rt, key, next)?;
             next = next.saturating_add(1);
         }
     }
     Ok(next)
+}
+
+fn compare_count(rt: &impl Abort, heap: Global, typed: &str, keys: u64) -> Result<(), Fail> {
+    let output = printed(heap, typed.as_bytes(), 64)?;
+    assert_eq!(rt; count_keys(rt, from_utf8(&output)?)?, keys, "{typed}");
+    Ok(())
 }
 
 #[test]
@@ -50,8 +61,7 @@ fn no_key_comes_twice(rt: HostRuntime) -> Result<(), Fail> {
     for (tree, keys) in TREES {
         for _ in 0..20 {
             let typed = requests(rt.alloc(), &mut random, tree)?;
-            let output = printed(rt.alloc(), typed.as_bytes(), 64)?;
-            assert_eq!(rt; count_keys(&rt, from_utf8(&output)?)?, keys, "{typed}");
+            compare_count(&rt, rt.alloc(), &typed, *keys)?;
         }
     }
     Ok(())

@@ -6,7 +6,7 @@ use std::str::from_utf8;
 use std::test::Fail;
 
 // Small trees, and stores of which one of their keys comes next.
-const SIGNERS: [(&'static str, &'static str); 5] = [
+const SIGNERS: &'static [(&'static str, &'static str)] = &[
     ("store 0 3 0 3\n", "levels 0 bits 1 seed 17\n"),
     ("store 0 3 0 3\n", "levels 0 bits 4 seed 0\n"),
     ("store 0 3 0 3\n", "levels 1 bits 2 seed 17\n"),
@@ -28,6 +28,16 @@ fn looked(heap: Global, store: &str, tree: &str) -> Result<String, Fail> {
     Ok([tree, "look ", root, " a deed\n", signature].concat(heap)?)
 }
 
+fn compare_spliced(
+    rt: &impl Abort,
+    heap: Global,
+    parts: [&[u8]; 3],
+    expected: &str,
+) -> Result<(), Fail> {
+    let input = parts.concat(heap)?;
+    compare(rt, heap, &input, expected)
+}
+
 // Changes a byte of it, by its place, its line, and how many spaces stand before it there. The words of the `look` line are left out, since what is no `look` takes no lines with it, and so is its text.
 fn compare_changed(
     rt: &impl Abort,
@@ -46,14 +56,15 @@ fn compare_changed(
     }
     if spaces > 0 && *byte != b' ' {
         let digit = if *byte == b'0' { b"1" } else { b"0" };
-        let input = [front, digit.as_slice(), behind].concat(heap)?;
-        compare(rt, heap, &input, "no\n")?;
+        compare_spliced(rt, heap, [front, digit, behind], "no\n")?;
     }
-    let input = [front, b"x", behind].concat(heap)?;
-    compare(rt, heap, &input, &format!(in heap; "5 {line}\n")?)
+    let refusal = format!(in heap; "5 {line}\n")?;
+    compare_spliced(rt, heap, [front, b"x", behind], &refusal)
 }
 
+// Looks at it as it is, and with each byte changed.
 fn compare_changes(rt: &impl Abort, heap: Global, input: &[u8]) -> Result<(), Fail> {
+    compare(rt, heap, input, "accepted\n")?;
     let mut line = 0usize;
     let mut spaces = 0usize;
     for (place, byte) in input.iter().enumerate() {
@@ -72,7 +83,6 @@ fn compare_changes(rt: &impl Abort, heap: Global, input: &[u8]) -> Result<(), Fa
 fn signatures_that_are_read_back(rt: HostRuntime) -> Result<(), Fail> {
     for (store, tree) in SIGNERS {
         let input = looked(rt.alloc(), store, tree)?;
-        compare(&rt, rt.alloc(), input.as_bytes(), "accepted\n")?;
         compare_changes(&rt, rt.alloc(), input.as_bytes())?;
     }
     Ok(())

@@ -207,7 +207,7 @@ fn lines_that_cannot_be_read(rt: HostRuntime) -> Result<(), Fail> {
 }
 
 // Lines of which no shorter front can be read; only a front that is `look` is left out, since it takes lines with it.
-const CUT_SHORT: [&'static [u8]; 8] = [
+const CUT_SHORT: &'static [&'static [u8]] = &[
     b"state",
     b"root",
     b"slot",

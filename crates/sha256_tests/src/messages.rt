@@ -3,11 +3,11 @@ ghost use Rattle.std.specs.Prelude.{◌<◌};
 
 use hash::Number;
 use sha256::Sha256;
-use std::alloc::Global;
+use std::alloc::{AllocError, Global};
 use std::process::Abort;
 use std::test::Fail;
 
-const STANDARD: [(&'static [u8], &'static str); 4] = [
+const STANDARD: &'static [(&'static [u8], &'static str)] = &[
     (
         b"",
         "e3b0c44298fc1c149afbf4c8996fb92427ae41e4649b934ca495991b7852b855",
@@ -27,7 +27,7 @@ const STANDARD: [(&'static [u8], &'static str); 4] = [
 ];
 
 // Lengths at which the padding takes a block more, or a block ends, and those beside them.
-const NEAR_THE_END_OF_A_BLOCK: [(u32, &'static str); 7] = [
+const NEAR_THE_END_OF_A_BLOCK: &'static [(u32, &'static str)] = &[
     (
         55,
         "e7313d333c272e639f790978283f9eb392e843d0f29b7016828bb1daa4aac70b",
@@ -68,19 +68,57 @@ fn in_pieces(message: &[u8], size: usize) -> [u8; 32]
     hasher.finish()
 }
 
+// Compares the digest of so many bytes, so many at a time, with what is expected.
+pub fn compare_printed(
+    rt: &impl Abort,
+    heap: Global,
+    found: Number,
+    digest: &str,
+    length: usize,
+    size: usize,
+) -> Result<(), Fail> {
+    let printed = format!(in heap; "{found}")?;
+    assert_eq!(rt;
+        printed.as_str(),
+        digest,
+        "{length} bytes, {size} at a time"
+    );
+    Ok(())
+}
+
 fn compare(rt: &impl Abort, heap: Global, message: &[u8], digest: &str) -> Result<(), Fail> {
     let length = message.len();
-    let at_once = format!(in heap; "{}", Number::from(Sha256::digest(message)))?;
-    assert_eq!(rt; at_once.as_str(), digest, "{length} bytes");
+    let at_once = Number::from(Sha256::digest(message));
+    compare_printed(rt, heap, at_once, digest, length, length)?;
     for size in [1, 7, 63, 64, 65, 1000] {
-        let streamed = format!(in heap; "{}", Number::from(in_pieces(message, size)))?;
-        assert_eq!(rt;
-            streamed.as_str(),
-            digest,
-            "{length} bytes, {size} at a time"
-        );
+        let streamed = Number::from(in_pieces(message, size));
+        compare_printed(rt, heap, streamed, digest, length, size)?;
     }
     Ok(())
+}
+
+// So many bytes, each by 7 more than the one before it.
+fn stepping(heap: Global, length: u32) -> Result<Vec<u8>, AllocError> {
+    let mut bytes = Vec::new(heap);
+    for i in 0..length {
+        bytes.push((i.wrapping_mul(7).wrapping_add(3) % 256) as u8)?;
+    }
+    Ok(bytes)
+}
+
+fn compare_length(rt: &impl Abort, heap: Global, length: u32, digest: &str) -> Result<(), Fail> {
+    let message = stepping(heap, length)?;
+    compare(rt, heap, &message, digest)
+}
+
+fn compare_million(rt: &impl Abort, heap: Global) -> Result<(), Fail> {
+    let many = vec![in heap; b'a'; 1_000_000]?;
+    compare(
+        rt,
+        heap,
+        &many,
+        "cdc76e5c9914fb9281a1c7e284d73e67f1809a48a497200e046d39ccc7112cd0",
+    )
 }
 
 #[test]
@@ -90,16 +128,7 @@ fn digests_from_outside(rt: HostRuntime) -> Result<(), Fail> {
         compare(&rt, heap, message, digest)?;
     }
     for (length, digest) in NEAR_THE_END_OF_A_BLOCK {
-        let message: Vec<u8> = (0..length)
-            .map(|i| (i.wrapping_mul(7).wrapping_add(3) % 256) as u8)
-            .collect(heap)?;
-        compare(&rt, heap, &message, digest)?;
+        compare_length(&rt, heap, *length, digest)?;
     }
-    let many = vec![in heap; b'a'; 1_000_000]?;
-    compare(
-        &rt,
-        heap,
-        &many,
-        "cdc76e5c9914fb9281a1c7e284d73e67f1809a48a497200e046d39ccc7112cd0",
-    )
+    compare_million(&rt, heap)
 }

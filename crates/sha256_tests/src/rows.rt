@@ -1,12 +1,13 @@
 // Rows of numbers against the digests of their bytes, and two against digests that Python's hashlib gives.
+use crate::messages::compare_printed;
 use crate::random::Random;
 use hash::{Number, Purpose, RowHasher};
 use sha256::{RowSha256, Sha256};
-use std::alloc::Global;
+use std::alloc::{AllocError, Global};
 use std::process::Abort;
 use std::test::Fail;
 
-const PURPOSES: [(Purpose, u8); 5] = [
+const PURPOSES: &'static [(Purpose, u8)] = &[
     (Purpose::Secret, 0),
     (Purpose::Shown, 1),
     (Purpose::Leaf, 2),
@@ -25,16 +26,12 @@ fn absorbed(purpose: Purpose, numbers: &[Number]) -> Number {
 
 fn compare(rt: &impl Abort, purpose: Purpose, numbers: &[Number], bytes: &[u8]) {
     let expected = Number::from(Sha256::digest(bytes));
-    assert_eq!(rt;
+    for found in [
         RowSha256::hash(purpose, numbers),
-        expected,
-        "{purpose:?} {numbers:?}"
-    );
-    assert_eq!(rt;
         absorbed(purpose, numbers),
-        expected,
-        "{purpose:?} {numbers:?}"
-    );
+    ] {
+        assert_eq!(rt; found, expected, "{purpose:?} {numbers:?}");
+    }
 }
 
 #[test]
@@ -70,12 +67,6 @@ fn rows_written_out(rt: HostRuntime) {
     );
 }
 
-fn compare_printed(rt: &impl Abort, heap: Global, hash: Number, digest: &str) -> Result<(), Fail> {
-    let printed = format!(in heap; "{hash}")?;
-    assert_eq!(rt; printed.as_str(), digest);
-    Ok(())
-}
-
 #[test]
 fn digests_from_outside(rt: HostRuntime) -> Result<(), Fail> {
     let heap = rt.alloc();
@@ -85,6 +76,8 @@ fn digests_from_outside(rt: HostRuntime) -> Result<(), Fail> {
         heap,
         RowSha256::hash(Purpose::Shown, &[largest]),
         "4ab9077c34a6903bc59693414a4fe8ccf275d93f2daacd849574933737c27757",
+        64,
+        64,
     )?;
     let abc = [Number::from(97), Number::from(98), Number::from(99)];
     compare_printed(
@@ -92,6 +85,8 @@ fn digests_from_outside(rt: HostRuntime) -> Result<(), Fail> {
         heap,
         RowSha256::hash(Purpose::Text, &abc),
         "8017f1dfd4e7bb9e5040bdd53e3c22db21d98e5fd43c7e9523e06232092ff7b5",
+        128,
+        128,
     )
 }
 
@@ -103,21 +98,35 @@ fn bytes_of_row(heap: Global, tag: u8, numbers: &[u8]) -> Result<Vec<u8>, Fail> 
     Ok(bytes)
 }
 
+// The numbers of which these are the bytes.
+fn numbers_of(heap: Global, bytes: &[u8]) -> Result<Vec<Number>, AllocError> {
+    let mut numbers = Vec::new(heap);
+    for chunk in bytes.as_chunks::<32>().0 {
+        numbers.push(Number::from(*chunk))?;
+    }
+    Ok(numbers)
+}
+
+fn compare_random(
+    rt: &impl Abort,
+    heap: Global,
+    random: &mut Random,
+    purpose: Purpose,
+    tag: u8,
+) -> Result<(), Fail> {
+    let count = random.below(12);
+    let bytes = random.bytes(heap, 32 * count)?;
+    let numbers = numbers_of(heap, &bytes)?;
+    compare(rt, purpose, &numbers, &bytes_of_row(heap, tag, &bytes)?);
+    Ok(())
+}
+
 #[test]
 fn random_rows(rt: HostRuntime) -> Result<(), Fail> {
-    let heap = rt.alloc();
     let mut random = Random { state: 17 };
     for _ in 0..200 {
         for (purpose, tag) in PURPOSES {
-            let count = random.below(12);
-            let bytes = random.bytes(heap, 32 * count)?;
-            let numbers: Vec<Number> = bytes
-                .as_chunks::<32>()
-                .0
-                .iter()
-                .map(|chunk| Number::from(*chunk))
-                .collect(heap)?;
-            compare(&rt, purpose, &numbers, &bytes_of_row(heap, tag, &bytes)?);
+            compare_random(&rt, rt.alloc(), &mut random, *purpose, *tag)?;
         }
     }
     Ok(())
