@@ -1,5 +1,5 @@
 -- What is promised of the store.
-use Rattle.std.proofs.Common.{◌≡◌, ℕ, zero, suc, ◌^◌, ◌<◌, ◌≤◌, true, false, ltb, leb, le-leb, lt-ltb, ◌∙◌, take, Some, None, Option, List, [], ◌∷◌, refl, sym, ap, inl, inr, arith}
+use Rattle.std.proofs.Common.{◌≡◌, ℕ, zero, suc, ◌<◌, ◌≤◌, true, false, ltb, leb, le-leb, lt-ltb, ◌∙◌, take, Some, None, Option, List, [], ◌∷◌, refl, sym, ap, inl, inr, arith}
 use Rattle.std.proofs.lemmas.Bool.{cases_Bool, ltb-true, leb-true, leb-false, false≢true}
 use Rattle.std.proofs.lemmas.Bool.Decides.{nat_tests}
 use Rattle.std.proofs.lemmas.List.{take_all}
@@ -21,8 +21,8 @@ cut_none (suc zero) m s e f u g = cut_keeps m s e f u
 cut_none (suc (suc n)) m s e f u g = let h = leb-false 2 (suc (suc n)) g in absurd (omega (arith, h))
 
 -- where a key is left
-left_keeps : (l n : ℕ) (m : List ℕ) → ltb (next m) (power l) ≡ true → power l ≤ 2 ^ max_levels → sound m ≡ true → Keeps l m n
-left_keeps l n m t few s =
+left_keeps : (l n : ℕ) (m : List ℕ) → ltb (next m) (power l) ≡ true → sound m ≡ true → Keeps l m n
+left_keeps l n m t s =
     let k = kept n m s in
     let below = ltb-true (next m) (power l) t in
     record {
@@ -30,20 +30,19 @@ left_keeps l n m t few s =
       no_smaller = rw t k.1;
       one_at_most = rw t k.2;
       one_if_given = λ g. rw t (k.3 (leb-true 2 n (rw t at g)));
-      none_if_cut = λ e f g. rw t (cut_none n m s e f (omega (arith, few, below)) (rw t at g));
+      none_if_cut = λ h e f g. rw t (cut_none n m s e f (omega (arith, few_keys l h, below)) (rw t at g));
     }
 
 pub store_kept_lem : StoreKept
-store_kept_lem l n m h s =
-    let few = few_keys l h in
+store_kept_lem l n m s =
     elim (cases_Bool (ltb (next m) (power l))) [
-      | inl t ↦ left_keeps l n m t few s
+      | inl t ↦ left_keeps l n m t s
       | inr f ↦ record {
         stays_sound = rw f s;
         no_smaller = rw f (omega arith);
         one_at_most = rw f (omega arith);
         one_if_given = rw f (λ g. absurd (false≢true g));
-        none_if_cut = rw f (λ _ _ _. refl {a = next m});
+        none_if_cut = rw f (λ _ _ _ _. refl {a = next m});
       }
     ]
 

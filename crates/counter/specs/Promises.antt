@@ -6,16 +6,16 @@ use Rattle.counter.specs.Cells.{left_by}
 use Rattle.counter.specs.Store.{check, slot_ok, next, sound, step, made, gives, counting}
 use Rattle.counter.specs.declared.answer.Done.TheVariants.{Key}
 
--- a request to the store m of a tree of l levels, with power for n writes: wherever power fails the store is sound afterwards, and the next key is no smaller and at most one more; by one where the key is given; and where it is not, and both slots were right, it is as it was
+-- a request to the store m of a tree of l levels, with power for n writes: wherever power fails the store is sound afterwards, and the next key is no smaller and at most one more; by one where the key is given; and where it is not, and both slots were right, it is as it was, in a tree that has no more levels than it may
 pub record Keeps (l : ℕ) (m : List ℕ) (n : ℕ) : Type 0 where
   pub stays_sound : sound (step l m n) ≡ true
   pub no_smaller : next m ≤ next (step l m n)
   pub one_at_most : next (step l m n) ≤ next m + 1
   pub one_if_given : gives l m n ≡ true → next (step l m n) ≡ next m + 1
-  pub none_if_cut : slot_ok m 0 ≡ true → slot_ok m 1 ≡ true → gives l m n ≡ false → next (step l m n) ≡ next m
+  pub none_if_cut : l ≤ max_levels → slot_ok m 0 ≡ true → slot_ok m 1 ≡ true → gives l m n ≡ false → next (step l m n) ≡ next m
 
 abbrev pub StoreKept : Type 0
-StoreKept = (l n : ℕ) (m : List ℕ) → l ≤ max_levels → sound m ≡ true → Keeps l m n
+StoreKept = (l n : ℕ) (m : List ℕ) → sound m ≡ true → Keeps l m n
 
 -- the store afterwards is what the writes that were made, in their order, leave of it
 abbrev pub LeftByWrites : Type 0
