@@ -134,7 +134,7 @@ impl Session {
         command: Command,
         lines: &SignatureLines<'_>,
     ) -> Result<Option<String>, AllocError>
-        ensures session { MatchResult result (λ _. Executed self.old command self.new) (λ _. Failed self.old self.new) }
+        ensures session { MatchResult result (λ _. Executed self.old command self.new) (λ _. Failed self.old command self.new) }
         ensures counts { Counted self.old command self.new }
         ensures text { IfOk result (λ o. Answered row_hash self.old command lines.now o) }
         ensures promised { IfOk result (λ o. PromisedStrings self.old command lines.now o) }
@@ -149,7 +149,7 @@ impl Session {
         command: Command,
         lines: &SignatureLines<'_>,
     ) -> Result<Option<String>, AllocError>
-        ensures session { MatchResult result (λ _. Executed self.old command self.new) (λ _. Failed self.old self.new) }
+        ensures session { MatchResult result (λ _. Executed self.old command self.new) (λ _. Failed self.old command self.new) }
         ensures counts { Counted self.old command self.new }
         ensures text { IfOk result (λ o. Answered H.mix self.old command lines.now o) }
         ensures promised { IfOk result (λ o. Promised H.mix self.old command lines.now o) }
