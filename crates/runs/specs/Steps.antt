@@ -1,5 +1,5 @@
 -- What one line does to the program, what the end of the input does, and what a turn is. The hash is SHA-256. Assumes nothing: these are definitions.
-use Rattle.std.specs.Prelude.{◌≡◌, ℕ, ◌<◌, true, false, ◌⊎◌, List, [], ◌∷◌, ◌++◌, map, length, Some, None, vec_items, string_bytes, Option, String}
+use Rattle.std.specs.Prelude.{◌≡◌, ℕ, ◌<◌, true, false, ◌⊎◌, List, [], ◌∷◌, ◌++◌, map, length, codes, Some, None, vec_items, string_bytes, Option, String}
 use Rattle.std.specs.Option.{option_map}
 use Rattle.std.specs.declared.alloc.Global.{Global}
 use Rattle.hash.specs.Value.{value_of}
@@ -10,7 +10,7 @@ use Rattle.texts.specs.Commands.{Spelled}
 use Rattle.texts.specs.SignatureLines.{line_after, LinesAre}
 use Rattle.texts.specs.declared.command.Command.{Command}
 use Rattle.texts.specs.declared.signature.SignatureLines.{SignatureLines}
-use Rattle.sessions.specs.Sessions.{Unchanged, Executed, Failed, Answered}
+use Rattle.sessions.specs.Sessions.{Unchanged, AfterSign, Executed, Answered}
 use Rattle.sessions.specs.declared.session.Session.{Session}
 use Rattle.runs.specs.Turns.{whole, Turn}
 use Rattle.runs.specs.declared.program.Program.{Program}
@@ -63,6 +63,10 @@ pub record Finished (p : Program) (printed : Option (List ℕ)) (p₁ : Program)
   pub nothing : taken p ≡ [] → (printed ≡ None) × (p₁ ≡ p)
   pub ends : TurnEnds p printed p₁
 
--- memory failed: what was taken and the number are as they were; of the session only a key may have been reserved, and then power lasts
-abbrev pub Kept : (before after : Program) → Type 0
-Kept p p₁ = Failed p.session p₁.session × (taken p₁ ≡ taken p) × (p₁.number ≡ p.number)
+-- memory failed in a turn of these lines: all is as it was, but of a `sign` line a key may have been reserved, and then power lasts
+abbrev pub FailedAt : List (List ℕ) → Session → Session → Type 0
+FailedAt lines s s₁ = Unchanged s s₁ ⊎ ((text : List ℕ) × (behind : List (List ℕ)) × (lines ≡ (codes "sign " ++ text) ∷ behind) × AfterSign s s₁)
+
+-- memory failed while these lines were to be a turn: what was taken and the number are as they were
+abbrev pub Kept : List (List ℕ) → (before after : Program) → Type 0
+Kept lines p p₁ = FailedAt lines p.session p₁.session × (taken p₁ ≡ taken p) × (p₁.number ≡ p.number)

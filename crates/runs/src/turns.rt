@@ -1,9 +1,9 @@
 // A turn of the program: a line, or a `look` with the four lines behind it.
 ghost use Rattle.std.specs.Prelude.{◌≡◌, ℕ, ◌<◌, [], map, length, None, IfOk, MatchResult, string_bytes, vec_items};
 ghost use Rattle.std.specs.Option.{option_map};
-ghost use Rattle.sessions.specs.Sessions.{Failed, Unchanged};
+ghost use Rattle.sessions.specs.Sessions.{Unchanged};
 ghost use Rattle.runs.specs.Turns.{whole, Turn};
-ghost use Rattle.runs.specs.Steps.{Turned};
+ghost use Rattle.runs.specs.Steps.{Turned, FailedAt};
 
 use keys::Refusal;
 use sessions::Session;
@@ -28,7 +28,7 @@ pub fn turn(
     lines: &[Vec<u8>],
 ) -> Result<Option<String>, AllocError>
     ensures nothing { IfOk result (λ o. map vec_items lines.now ≡ [] → (option_map string_bytes o ≡ None) × Unchanged session.old session.new) }
-    ensures turned { MatchResult result (λ o. 0 < length lines.now → Turned number session.old (record { typed = map vec_items lines.now; printed = option_map string_bytes o }) session.new) (λ _. Failed session.old session.new) }
+    ensures turned { MatchResult result (λ o. 0 < length lines.now → Turned number session.old (record { typed = map vec_items lines.now; printed = option_map string_bytes o }) session.new) (λ _. FailedAt (map vec_items lines.now) session.old session.new) }
 {
     let Some((line, behind)) = lines.split_first() else {
         return Ok(None);
