@@ -3,7 +3,7 @@
 
 Run by hand, not by the gate, after `rt run` in crates/kachumpe:  python3 tests/typed.py
 With KACHUMPE=FILE it runs that file in the program's place.
-It fails where an answer has not come before the next line is typed, where one comes too early, where the input is closed at some point and the program then prints anything else than it should, does not end or ends with a status other than 0. It types over a pipe, and once over a pseudo-terminal.
+It fails where an answer has not come before the next line is typed, where one comes too early, where the input is closed at some point and the program then prints anything else than it should, does not end or ends with a status other than 0, and where an output that is full is no error. It types over a pipe, and once over a pseudo-terminal.
 """
 import os
 import pty
@@ -143,6 +143,13 @@ def close(program, answers, where):
     program.process.stdout.close()
 
 
+def full():
+    """An output that takes nothing ends the run with an error."""
+    with open("/dev/full", "wb") as nothing:
+        ran = subprocess.run([sessions.PROGRAM], input=b"state\n", stdout=nothing, stderr=subprocess.PIPE)
+    check(ran.returncode == 1 or "it ended with %d" % ran.returncode, "an output that is full")
+
+
 def main():
     said = lines()
     program = at_pipes()
@@ -160,6 +167,8 @@ def main():
         closed(said[:count], line)
     closed(said, b"")
     print("closed at %d places: it ended with 0" % (3 * len(said) + 1))
+    full()
+    print("an output that is full: it ended with 1")
 
 
 if __name__ == "__main__":
