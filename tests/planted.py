@@ -4,6 +4,8 @@
 Run by hand, not by the gate:  python3 tests/planted.py [--write] [crate ..]
 The bugs are the must-fail edits, which the gate tries too, and the files below tests/planted/, of the same form. With --write the table in docs/PLANTED.md is written again, the rows of the crates that were named alone. It works on a copy of the checkout.
 """
+import contextlib
+import functools
 import os
 import re
 import shutil
@@ -78,8 +80,54 @@ def proofs(room, crate):
     return answers
 
 
-def tests(room, crate, file):
+def failing(room, tests):
+    """The tests of a crate that fail or do not end, as the copy is."""
+    ran = subprocess.run(["rt", "try", "--test"], cwd="%s/crates/%s" % (room, tests), stdout=subprocess.PIPE, stderr=subprocess.STDOUT, text=True)
+    said = dict(re.findall(r"^test (\S+) \.\.\. (.*)", ran.stdout, re.M))
+    if not said:
+        sys.exit("%s: %s" % (tests, ran.stdout))
+    return [name for name, answer in said.items() if answer != "ok"]
+
+
+@functools.cache
+def never_ends(room, tests):
+    """The tests of a crate that fail or do not end here with no bug, as some do where they are not built but run at once."""
+    return failing(room, tests)
+
+
+def tested(room, crate, file):
     """The first test that refuses a bug with which the crate is still proved."""
+    others = [it for it, beneath in crates().items() if crate in [it] + beneath]
+    with_tests = [it for it in others if it.endswith("_tests")]
+    for tests in with_tests:
+        never_ends(room, tests)
+    with planted(room, crate, file):
+        for tests in with_tests:
+            for name in failing(room, tests):
+                if name not in never_ends(room, tests):
+                    return "a test of `%s`" % tests, "`%s`" % name
+        for program in others:
+            folder = "%s/crates/%s" % (room, program)
+            if os.path.exists(folder + "/stdin") and not answers_well(folder):
+                return "the run of `%s`" % program, ""
+        if "kachumpe" in others:
+            for words in (["typed.py"], ["sessions.py", "300"]):
+                if subprocess.run(["python3", "tests/" + words[0]] + words[1:], cwd=room, stdout=subprocess.PIPE, stderr=subprocess.PIPE).returncode:
+                    return "`tests/%s`" % words[0], ""
+    return "nothing", ""
+
+
+def answers_well(folder):
+    """Whether a program writes what its file stdout has."""
+    with open(folder + "/stdin") as stdin, open(folder + "/stdout", "rb") as stdout:
+        wanted = stdout.read()
+        subprocess.run(["rt", "run"], cwd=folder, stdin=subprocess.DEVNULL, stdout=subprocess.PIPE, stderr=subprocess.PIPE)
+        return subprocess.run([folder + "/out/" + os.path.basename(folder)], stdin=stdin, stdout=subprocess.PIPE, stderr=subprocess.PIPE).stdout == wanted
+
+
+@contextlib.contextmanager
+def planted(room, crate, file):
+    """The copy with a bug in it."""
     was = {}
     with open(file) as it:
         lines = it.read().split("\n")
@@ -95,36 +143,11 @@ def tests(room, crate, file):
             with open(path, "w") as it:
                 it.write(text.replace(old, line[4:].removeprefix(" ")))
     try:
-        return tested(room, crate)
+        yield
     finally:
         for path, text in was.items():
             with open(path, "w") as it:
                 it.write(text)
-
-
-def tested(room, crate):
-    """The first test of the copy that fails."""
-    for other, beneath in crates().items():
-        folder = "%s/crates/%s" % (room, other)
-        if other.endswith("_tests") and crate in [other] + beneath:
-            ran = subprocess.run(["rt", "try", "--test"], cwd=folder, stdout=subprocess.PIPE, stderr=subprocess.STDOUT, text=True)
-            failed = re.search(r"^test (\S+) \.\.\. (?!ok)", ran.stdout, re.M)
-            if failed or "0 failed" not in ran.stdout:
-                return "a test of `%s`" % other, "`%s`" % failed[1] if failed else "it does not end"
-    for other, beneath in crates().items():
-        folder = "%s/crates/%s" % (room, other)
-        if os.path.exists(folder + "/stdin") and crate in [other] + beneath:
-            with open(folder + "/stdin") as stdin:
-                ran = subprocess.run(["rt", "run"], cwd=folder, stdin=stdin, stdout=subprocess.PIPE, stderr=subprocess.PIPE)
-            with open(folder + "/stdout", "rb") as stdout:
-                if ran.stdout != stdout.read():
-                    return "the run of `%s`" % other, ""
-    if crate in ["kachumpe"] + crates()["kachumpe"]:
-        for script in (["typed.py"], ["sessions.py", "300"]):
-            ran = subprocess.run(["python3", "tests/" + script[0]] + script[1:], cwd=room, stdout=subprocess.PIPE, stderr=subprocess.PIPE)
-            if ran.returncode:
-                return "`tests/%s`" % script[0], ""
-    return "nothing", ""
 
 
 def rows(room, crate):
@@ -132,7 +155,7 @@ def rows(room, crate):
     answers, lines = proofs(room, crate), []
     for name, (file, in_gate) in bugs(crate).items():
         what, path = told(file)
-        by, where = answers[name] or tests(room, crate, file)
+        by, where = answers[name] or tested(room, crate, file)
         lines.append("| `%s` | %s | %s | %s | %s |" % (crate, path.removeprefix("src/"), what.replace("|", "\\|"), by + (" *" if in_gate else ""), where))
         print(lines[-1], flush=True)
     return lines
