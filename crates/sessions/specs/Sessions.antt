@@ -48,12 +48,9 @@ AfterSign s s₁ = Has s₁ (stored s.tree.signer.levels (vec_items s.store) s.t
 abbrev pub Executed : Session → Command → Session → Type 0
 Executed s (Store v) s₁ = Has s₁ (vec_items v) s.tree s.power
 Executed s (Levels t) s₁ = Has s₁ (vec_items s.store) t s.power
-Executed s Root s₁ = Unchanged s s₁
-Executed s (Sign t) s₁ = AfterSign s s₁
-Executed s (Look r t) s₁ = Unchanged s s₁
 Executed s (Power k) s₁ = Has s₁ (vec_items s.store) s.tree (Some k)
-Executed s Slot s₁ = Unchanged s s₁
-Executed s State s₁ = Unchanged s s₁
+Executed s (Sign t) s₁ = AfterSign s s₁
+Executed s c s₁ = Unchanged s s₁
 
 -- what a command leaves where memory fails: all is as it was, or, of a `sign` alone, what it leaves otherwise, so a key that was reserved stays so
 abbrev pub Failed : Session → Command → Session → Type 0
@@ -63,13 +60,7 @@ Failed s c s₁ = Unchanged s s₁
 -- no command but `store` puts the count back, whatever it is answered, and also where memory fails: a sound store stays sound, and its next key never gets smaller
 abbrev pub Counted : Session → Command → Session → Type 0
 Counted s (Store v) s₁ = Unit {0}
-Counted s (Levels t) s₁ = KeepsCount (vec_items s.store) (vec_items s₁.store)
-Counted s Root s₁ = KeepsCount (vec_items s.store) (vec_items s₁.store)
-Counted s (Sign t) s₁ = KeepsCount (vec_items s.store) (vec_items s₁.store)
-Counted s (Look r t) s₁ = KeepsCount (vec_items s.store) (vec_items s₁.store)
-Counted s (Power k) s₁ = KeepsCount (vec_items s.store) (vec_items s₁.store)
-Counted s Slot s₁ = KeepsCount (vec_items s.store) (vec_items s₁.store)
-Counted s State s₁ = KeepsCount (vec_items s.store) (vec_items s₁.store)
+Counted s c s₁ = KeepsCount (vec_items s.store) (vec_items s₁.store)
 
 -- the bits of a text that the session's keys sign
 abbrev pub bits_asked : Mix → Session → (text : List ℕ) → List Bool
@@ -113,9 +104,6 @@ Answered h s State t o = Says o (counts_line (codes "store") (vec_items s.store)
 
 -- What is promised of the answers, above how they are worked out. A signature that is printed is accepted, for its text and the session's own root. And where `accepted` is printed, the lines are those of a signature that is, of every signer whose root this is, the signer's own for just these bits; or a row that looking at it hashes and one of the signer's own tree differ and hash to the same
 abbrev pub Promised : Mix → Session → Command → SignatureLines → Option (String Global) → Type 0
-Promised h s (Store v) t o = Unit {0}
-Promised h s (Levels a) t o = Unit {0}
-Promised h s Root t o = Unit {0}
 Promised h s (Sign x) t o =
     let seed = value_of s.tree.signer.seed in
     let l = s.tree.signer.levels in
@@ -127,9 +115,7 @@ Promised h s (Look r x) t o =
     Says o (codes "accepted") →
     (g : ReadSignature) × LinesOf (signature_of g) t
     × ((seed l n : ℕ) → value_of r ≡ node h n seed l 0 → Own h seed l n s.tree.signer.levels bs (signature_of g) ⊎ LocatedCollision h n seed l bs (signature_of g))
-Promised h s (Power k) t o = Unit {0}
-Promised h s Slot t o = Unit {0}
-Promised h s State t o = Unit {0}
+Promised h s c t o = Unit {0}
 
 -- What is promised where the hash is SHA-256. Where `accepted` is printed, the lines are those of a signature that is, of every signer whose root this is, the signer's own for just these bits; or two byte strings differ and have the same SHA-256, one hashed in looking at it and one in the signer's own tree. All else is as for every hash
 abbrev pub PromisedStrings : Session → Command → SignatureLines → Option (String Global) → Type 0
