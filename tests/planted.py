@@ -161,15 +161,16 @@ def rows(room, crate):
     return lines
 
 
-def write(made):
-    """Puts the rows that were made in the place of those of the same crates."""
+def write(made_of, made):
+    """Puts the rows that were made of a crate in the place of those that were there."""
     with open(PAGE) as it:
         before, rest = it.read().split(FROM)
     table, after = rest.split(TO)
-    kept = {}
+    rows = {made_of: made}
     for line in table.split("\n")[2:]:
-        kept.setdefault(line.split("`")[1], []).append(line)
-    lines = [line for crate in crates() for line in made.get(crate, kept.get(crate, []))]
+        if line.split("`")[1] != made_of:
+            rows.setdefault(line.split("`")[1], []).append(line)
+    lines = [line for crate in crates() for line in rows.get(crate, [])]
     with open(PAGE, "w") as it:
         it.write(before + FROM + "\n".join([HEAD] + lines) + TO + after)
 
@@ -180,9 +181,10 @@ def main():
     with tempfile.TemporaryDirectory() as folder:
         room = folder + "/planted"
         shutil.copytree(TOP, room, symlinks=True)
-        made = {crate: rows(room, crate) for crate in named}
-    if "--write" in words:
-        write(made)
+        for crate in named:
+            made = rows(room, crate)
+            if "--write" in words:
+                write(crate, made)
 
 
 main()
