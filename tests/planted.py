@@ -45,18 +45,20 @@ def told(file):
 
 
 def goal(first):
-    """Which kind of fact the first error of a proof is about, and the name of the goal."""
-    name = re.search("`([a-z][a-z0-9-]*)`", first)
-    place = re.search(r"proofs/\S+?\.antt:\d+", first)
-    if "that what the function ensures" in first or name and name[1].startswith("returns"):
+    """Which kind of fact the first error of a proof is about, and the name of the goal, as far as it is told."""
+    names = [it for it in re.findall(r"`([a-z][\w-]*`?)", first) if it.startswith(("returns", "loop")) or "-requires" in it]
+    if "that what the function ensures" in first or names and names[0].startswith("returns"):
         kind = "what it ensures"
-    elif "invariant" in first or name and name[1].startswith("loop"):
+    elif "invariant of the loop" in first or names and names[0].startswith("loop"):
         kind = "a loop's invariant"
+    elif "invariant" in first:
+        kind = "a type's invariant"
     elif "requires" in first:
         kind = "what a callee requires"
     else:
         kind = "another fact"
-    return kind + (", at a line by hand" if place else ""), "`%s`" % name[1] if name else ""
+    by_hand = ", at a line by hand" if re.search(r"proofs/\S+?\.antt:\d+", first) else ""
+    return kind + by_hand, "`%s`" % (names[0].rstrip("`") + ("" if names[0].endswith("`") else "..")) if names else ""
 
 
 def proofs(room, crate):
