@@ -88,7 +88,7 @@ def proofs(room, crate):
 
 def failing(room, tests):
     """The tests of a crate that fail or do not end, as the copy is."""
-    ran = subprocess.run(["rt", "try", "--test"], cwd="%s/crates/%s" % (room, tests), stdout=subprocess.PIPE, stderr=subprocess.STDOUT, text=True)
+    ran = subprocess.run(["rt", "try", "--test", "--seconds", "15"], cwd="%s/crates/%s" % (room, tests), stdout=subprocess.PIPE, stderr=subprocess.STDOUT, text=True)
     said = dict(re.findall(r"^test (\S+) \.\.\. (.*)", ran.stdout, re.M))
     if not said:
         sys.exit("%s: %s" % (tests, ran.stdout))
