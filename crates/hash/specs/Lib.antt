@@ -3,5 +3,6 @@ pub mod Hex
 pub mod Laws
 pub mod Members
 pub mod Mix
+pub mod Rows
 pub mod Tag
 pub mod Value

@@ -1,5 +1,7 @@
 // The hash over rows of numbers, fed number by number so that no row is ever held.
 ghost use Rattle.std.specs.Prelude.{◌≡◌, ℕ, List, [], ◌∷◌, ◌++◌, map};
+ghost use Rattle.std.specs.List.{AllZip};
+ghost use Rattle.hash.specs.Rows.{longer};
 ghost use Rattle.hash.specs.Tag.{tag};
 ghost use Rattle.hash.specs.Value.{value_of};
 
@@ -20,6 +22,26 @@ pub trait RowHasher: Sized + Copy {
 
     fn finish(self) -> Number
         ensures { (xs : List ℕ) → holds self xs → value_of result ≡ mix xs };
+
+    // Eight hashers side by side take in a number each. One after the other, where a hash has no better way.
+    fn absorb_eight(hashers: &mut [Self; 8], numbers: &[Number; 8])
+        ensures { (rows : List (List ℕ)) → AllZip holds hashers.old rows → AllZip holds hashers.new (longer rows (map value_of numbers.now)) }
+    {
+        for i in 0..8 {
+            hashers[i].absorb(&numbers[i]);
+        }
+    }
+
+    // The hashes of the rows that eight hashers have taken in.
+    fn finish_eight(hashers: &[Self; 8]) -> [Number; 8]
+        ensures { (rows : List (List ℕ)) → AllZip holds hashers.now rows → map value_of result ≡ map mix rows }
+    {
+        let mut hashes = [Number::from(0); 8];
+        for i in 0..8 {
+            hashes[i] = hashers[i].finish();
+        }
+        hashes
+    }
 
     // The hash of a short row that is at hand.
     final fn hash(purpose: Purpose, numbers: &[Number]) -> Number
