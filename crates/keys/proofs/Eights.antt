@@ -1,12 +1,17 @@
 -- Rows of eight places side by side: what is hashed of them, number by number.
-use Rattle.std.proofs.Common.{◌≡◌, ℕ, zero, suc, ◌+◌, Bool, true, false, List, [], ◌∷◌, ◌++◌, map, length, replicate, sym, refl, ap, ◌∙◌, subst, zero-add, add-one, append_assoc, arith}
+use Rattle.std.proofs.Common.{◌≡◌, ℕ, zero, suc, ◌+◌, ◌<◌, Bool, true, false, List, [], ◌∷◌, ◌++◌, map, length, get_or, replicate, sym, refl, ap, ◌∙◌, subst, zero-add, add-one, append_assoc, arith}
 use mathlib.Core.List.{is_set as List-set}
 use Rattle.std.proofs.Math.Logic.{∥∥₁_elim}
 use Rattle.std.proofs.Math.Nat.{ℕ_set}
-use Rattle.std.specs.List.{AllZip}
+use Rattle.std.proofs.lemmas.List.{get_or-map, get_or-replicate, length-map}
+use Rattle.std.proofs.lemmas.List.FromFn.{get_or-range_with_len}
+use Rattle.std.proofs.lemmas.Simd.{get_or-zip2}
+use Rattle.std.specs.List.{AllZip, range_with_len}
 use Rattle.std.specs.Simd.Lanes.{zip2}
 use Rattle.hash.specs.Mix.{Mix}
 use Rattle.hash.specs.Rows.{longer}
+use Rattle.hash.specs.Value.{value_of}
+use Rattle.hash.specs.declared.number.Number.{Number}
 use Rattle.keys.specs.Keys.{bit, secret, shown, shown_all, leaf, leaf_row}
 use Rattle.keys.proofs.Shown.{shown_all_push}
 
@@ -86,3 +91,19 @@ pub leaves_of_rows : (h : Mix) (s j n : ℕ) (keys : List ℕ) → j ≡ n → m
 unfolding leaf
 leaves_of_rows h s j n [] e = refl
 leaves_of_rows h s j n (i ∷ keys) e = λ t. h (leaf_row h (e t) s i) ∷ leaves_of_rows h s j n keys e t
+
+-- what is shown for one of eight bits of a key
+pub shown_at : (h : Mix) (s i first : ℕ) (b : Bool) (ns : List Number) (vs js : List ℕ) (k : ℕ) (d : Number) → k < 8 → js ≡ range_with_len first 8 →
+    vs ≡ zip2 (λ x j. secret h s x j b) (replicate 8 i) js → map value_of ns ≡ map (shown h) vs → value_of (get_or ns k d) ≡ shown h (secret h s i (first + k) b)
+shown_at h s i first b ns vs js k d few p e f =
+    let places = range_with_len first 8 in
+    let one = λ (x j : ℕ). secret h s x j b in
+    let each : map value_of ns ≡ map (shown h) (zip2 one (replicate 8 i) places) = f ∙ ap (map (shown h)) (e ∙ ap (zip2 one (replicate 8 i)) p) in
+    let long : length ns ≡ 8 = sym (length-map ns value_of) ∙ ap length each in
+    sym (get_or-map value_of ns k d 0 (omega arith))
+    ∙ ap (λ (xs : List ℕ). get_or xs k 0) each
+    ∙ get_or-map (shown h) (zip2 one (replicate 8 i) places) k 0 0 few
+    ∙ ap (shown h)
+    (get_or-zip2 one (replicate 8 i) places k 0 0 0 few few
+    ∙ ap (λ (x : ℕ). secret h s x (get_or places k 0) b) (get_or-replicate 8 k i 0 few)
+    ∙ ap (λ (j : ℕ). secret h s i j b) (get_or-range_with_len first 8 k 0 few))

@@ -1,12 +1,13 @@
 // A one-time key: for each bit two secret numbers, worked out of the seed, each shown hashed.
-ghost use Rattle.std.specs.Prelude.{◌≡◌, [], ◌∷◌};
+ghost use Rattle.std.specs.Prelude.{◌≡◌, ◌*◌, ◌^◌, ◌<◌, [], ◌∷◌};
 ghost use Rattle.hash.specs.Value.{value_of};
-ghost use Rattle.keys.specs.Keys.{secret, shown, leaf};
+ghost use Rattle.keys.specs.Keys.{secret, shown, leaf, leaf_row};
 
 use hash::{Number, Purpose, RowHasher};
 
 mod eight;
 
+use eight::absorb_eight_bits;
 pub use eight::{EightPairs, show_eight};
 
 // All secret numbers of a seed. The rows that they are the hashes of begin alike, so what begins each of them is taken in once, and copied.
@@ -74,12 +75,24 @@ impl<H: RowHasher> OneTimeKey<'_, H> {
         show::<H>(&self.secret(bit, set))
     }
 
+    // The leaf's row up to a number of bits, eight at a time.
+    fn leaf_front(&self, eights: u64) -> H
+        requires { 8 * eights < 2 ^ 64 }
+        ensures { H.RowHasher.holds result (leaf_row H.mix (8 * eights) (value_of self.now.secrets.now.seed) self.now.index) }
+    {
+        let mut hasher = H::start(Purpose::Leaf);
+        for i in 0..eights {
+            absorb_eight_bits(self, 8 * i, &mut hasher);
+        }
+        hasher
+    }
+
     // The leaf of the key for so many bits, hashed as its numbers come.
     pub fn leaf(&self, bits: u64) -> Number
         ensures { value_of result ≡ leaf H.mix bits (value_of self.now.secrets.now.seed) self.now.index }
     {
-        let mut hasher = H::start(Purpose::Leaf);
-        for bit in 0..bits {
+        let mut hasher = self.leaf_front(bits / 8);
+        for bit in bits / 8 * 8..bits {
             hasher.absorb(&self.shown(bit, false));
             hasher.absorb(&self.shown(bit, true));
         }

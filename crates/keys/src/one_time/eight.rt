@@ -1,12 +1,12 @@
 // Eight one-time keys, or eight bits of one, side by side: the rows of their secret numbers have one shape, and so do those of what is shown.
-ghost use Rattle.std.specs.Prelude.{◌≡◌, ℕ, List, [], ◌∷◌, ◌++◌, true, false, map};
-ghost use Rattle.std.specs.List.{AllZip};
+ghost use Rattle.std.specs.Prelude.{◌≡◌, ℕ, ◌+◌, ◌^◌, ◌≤◌, List, [], ◌∷◌, ◌++◌, true, false, map};
+ghost use Rattle.std.specs.List.{AllZip, range_with_len};
 ghost use Rattle.std.specs.Simd.Lanes.{zip2};
 ghost use Rattle.hash.specs.Rows.{longer};
 ghost use Rattle.hash.specs.Value.{value_of};
 ghost use Rattle.keys.specs.Keys.{secret, shown, leaf, leaf_row};
 
-use super::Secrets;
+use super::{OneTimeKey, Secrets};
 use hash::{Number, Purpose, RowHasher};
 
 // The secret numbers of eight places, each a bit of a key: for the bit not being set, and for it being set.
@@ -56,6 +56,37 @@ fn absorb_shown<H: RowHasher>(hashers: &mut [H; 8], pairs: &EightPairs)
 {
     H::absorb_eight(hashers, &show_eight::<H>(&pairs.unset));
     H::absorb_eight(hashers, &show_eight::<H>(&pairs.set));
+}
+
+// The eight places from one on.
+fn eight_from(first: u64) -> [u64; 8]
+    requires { first + 8 ≤ 2 ^ 64 }
+    ensures { result ≡ range_with_len first 8 }
+{
+    [
+        first,
+        first + 1,
+        first + 2,
+        first + 3,
+        first + 4,
+        first + 5,
+        first + 6,
+        first + 7,
+    ]
+}
+
+// A leaf's row takes in what is shown of its key for the eight bits from one on.
+pub(super) fn absorb_eight_bits<H: RowHasher>(key: &OneTimeKey<'_, H>, first: u64, hasher: &mut H)
+    requires { first + 8 ≤ 2 ^ 64 }
+    ensures { H.RowHasher.holds hasher.old (leaf_row H.mix first (value_of key.now.secrets.now.seed) key.now.index) → H.RowHasher.holds hasher.new (leaf_row H.mix (first + 8) (value_of key.now.secrets.now.seed) key.now.index) }
+{
+    let pairs = key.secrets.eight_pairs(&[key.index; 8], &eight_from(first));
+    let unset = show_eight::<H>(&pairs.unset);
+    let set = show_eight::<H>(&pairs.set);
+    for k in 0..8 {
+        hasher.absorb(&unset[k]);
+        hasher.absorb(&set[k]);
+    }
 }
 
 impl<H: RowHasher> Secrets<H> {

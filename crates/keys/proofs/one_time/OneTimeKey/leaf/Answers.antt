@@ -1,13 +1,14 @@
--- The loop takes in all that is shown, bit by bit.
-use Rattle.std.proofs.Common.{◌≡◌, ap, ◌∙◌, arith}
+-- The loop takes in all that is shown behind the eights, bit by bit.
+use Rattle.std.proofs.Common.{◌≡◌, ℕ, ap, subst, ◌∙◌, arith}
 use Rattle.hash.specs.Value.{value_of}
-use Rattle.keys.specs.Keys.{leaf, leaf_row, shown_all}
+use Rattle.keys.specs.Keys.{leaf, leaf_row}
 use Rattle.keys.proofs.Shown.{leaf_more}
 use Rattle.keys.proofs.one_time.OneTimeKey.leaf.Goals as goal
 
 pub loop-bit-init : goal.loop-bit-init
-unfolding shown_all
-loop-bit-init g c = c.start-hasher.ensures
+loop-bit-init g c =
+    subst (λ (n : ℕ). g.H.RowHasher.holds c.leaf_front-hasher.result (leaf_row g.H.RowHasher.mix n (value_of c.args.self.now.secrets.now.seed) c.args.self.now.index)) (omega arith)
+    c.leaf_front-hasher.ensures
 
 pub loop-bit-preserved : goal.loop-bit-preserved
 loop-bit-preserved g c =
