@@ -1,5 +1,6 @@
 -- The work that is asked for. Assumes nothing: these are definitions.
-use Rattle.std.specs.Prelude.{ℕ, zero, suc, ◌/◌, ◌%◌, List, [], ◌++◌, take}
+use Rattle.std.specs.Prelude.{ℕ, zero, suc, ◌+◌, ◌/◌, ◌%◌, ◌==◌, Bool, if◌then◌else◌, List, [], ◌++◌, take}
+use Rattle.keys.specs.Keys.{bit}
 use Rattle.compression.specs.Fips180.{H₀, compressed}
 
 -- a buffer n times, behind each other
@@ -15,3 +16,12 @@ cycled n b = copies (n / 4096) b ++ take (n % 4096) b
 unfoldable pub after_blocks : ℕ → List ℕ → List ℕ
 after_blocks zero b = H₀
 after_blocks (suc n) b = compressed (after_blocks n b) b
+
+-- the row of bits that look n is for: one and the other in turn
+abbrev pub row_of : (one other : List Bool) → ℕ → List Bool
+row_of one other n = if n % 2 == 0 then one else other
+
+-- how many of the first n looks accept
+unfoldable pub taken_of : (List Bool → Bool) → (one other : List Bool) → ℕ → ℕ
+taken_of accepts one other zero = 0
+taken_of accepts one other (suc n) = taken_of accepts one other n + bit (accepts (row_of one other n))

@@ -9,6 +9,8 @@ pub enum Job {
     Blocks(u64),
     // How many bytes are hashed.
     Bytes(u64),
+    // How often a signature is looked at.
+    Looks(u64),
 }
 
 // The count behind a word, if the line is that.
@@ -23,8 +25,11 @@ fn count_behind(word: &str, line: &str) -> Option<u64>
 pub fn read_job(line: &str) -> Option<Job>
     ensures { MatchOption result ((job : Job) → AsksFor line.now job → ⊥) (AsksFor line.now) }
 {
-    match count_behind("blocks ", line) {
-        Some(count) => Some(Job::Blocks(count)),
-        None => count_behind("bytes ", line).map(Job::Bytes),
+    if let Some(count) = count_behind("blocks ", line) {
+        return Some(Job::Blocks(count));
+    }
+    match count_behind("bytes ", line) {
+        Some(count) => Some(Job::Bytes(count)),
+        None => count_behind("looks ", line).map(Job::Looks),
     }
 }

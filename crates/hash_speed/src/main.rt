@@ -1,13 +1,17 @@
 // Hashes as much as each line of standard input says, and prints a digest for each and never a time: bench/speed.py takes the time from outside.
 //     blocks N: the hash value after compressing one block N times
 //     bytes N: the SHA-256 of N bytes, taken in as a stream
-// A line that is neither is answered by `?`.
+//     looks N: how many times a signature is accepted that is looked at N times, in turn for the bits that it signs and for others; and the root
+// A line that is none of these is answered by `?`.
 #![tactic(auto)]
 
 mod job;
+mod looks;
 mod work;
 
 use job::{Job, read_job};
+use looks::looks;
+use sha256::RowSha256;
 use std::io;
 use std::io::{BufRead, BufReader};
 use work::{compress_again, digest_of_bytes, pattern};
@@ -23,6 +27,10 @@ fn answer(rt: &HostRuntime, line: &[u8]) -> io::Result<()> {
             for byte in digest_of_bytes(&pattern(), count) {
                 print!(rt; "{byte:02x}")?;
             }
+        }
+        Some(Job::Looks(count)) => {
+            let (root, taken) = looks::<RowSha256>(count);
+            print!(rt; "{taken} {root}")?;
         }
         None => print!(rt; "?")?,
     }

@@ -7,7 +7,7 @@ use std::alloc::{AllocError, Global};
 use std::process::Abort;
 use std::test::Fail;
 
-const PURPOSES: &'static [(Purpose, u8)] = &[
+pub const PURPOSES: &'static [(Purpose, u8)] = &[
     (Purpose::Secret, 0),
     (Purpose::Shown, 1),
     (Purpose::Leaf, 2),
