@@ -9,6 +9,8 @@ use crate::join;
 use hash::{Number, RowHasher};
 use keys::{Refusal, Secrets, Signer};
 
+mod eight;
+
 // The place of the other node under the same node.
 #[tactic(auto, unfolding(crate::specs::Tree::beside))]
 fn place_beside(place: u64) -> u64
@@ -87,6 +89,9 @@ impl<H: RowHasher> TreeMaker<H> {
     {
         if level == 0 {
             return self.secrets.key(key).leaf(self.bits);
+        }
+        if level == 3 {
+            return self.make_low_path(key, path);
         }
         let below = level - 1;
         let other = self.make_node(below, place_beside(key >> below), path);
