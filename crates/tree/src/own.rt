@@ -1,4 +1,4 @@
-// The signer's own tree: its root, its nodes and its authentication paths. Nothing holds the tree: a node is made on the walk up from its first leaf, and on that walk each leaf below it is worked out once: 2^l leaves and 2^l - 1 nodes above them for a root or a path of l levels. That what stands behind the numbers that are written is as it was is said by `drop`, which is as short as a name.
+// The signer's own tree: its root, its nodes and its authentication paths. Nothing holds the tree: a node is made on the walk up from its first leaf, and on that walk each leaf below it is worked out once, eight side by side where there are as many: 2^l leaves and 2^l - 1 nodes above them for a root or a path of l levels. That what stands behind the numbers that are written is as it was is said by `drop`, which is as short as a name.
 ghost use Rattle.std.specs.Prelude.{◌≡◌, ◌*◌, ◌/◌, ◌^◌, ◌<◌, ◌≤◌, map, length, take, drop};
 ghost use Rattle.hash.specs.Value.{value_of};
 ghost use Rattle.keys.specs.Limits.{max_levels};

@@ -9,7 +9,7 @@ use super::{TreeMaker, place_beside};
 use crate::parent;
 use hash::{Number, RowHasher};
 
-// The eight keys below the same node of level 3 as a key.
+// The eight keys below the node of level 3 that a key is below.
 fn eight_keys(key: u64) -> [u64; 8]
     ensures { result ≡ range_with_len (8 * (key / 8)) 8 }
 {
@@ -48,7 +48,7 @@ fn two_above<H: RowHasher>(nodes: &[Number; 4]) -> [Number; 2]
 }
 
 impl<H: RowHasher> TreeMaker<H> {
-    // The authentication path from a key up to level 3, and the node that it leads to. What is beside the nodes on the way up is at hand, since all that is below that node is.
+    // The authentication path from a key up to level 3, and the node that it leads to. Its numbers are among those that the node is made of.
     pub(super) fn make_low_path(&self, key: u64, path: &mut [Number]) -> Number
         requires { 3 ≤ length path.old }
         ensures value { value_of result ≡ node H.mix self.now.bits (value_of self.now.secrets.seed) 3 (key / 2 ^ 3) }
