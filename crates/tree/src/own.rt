@@ -78,7 +78,7 @@ impl<H: RowHasher> TreeMaker<H> {
         self.make_path(level, place << level, scratch)
     }
 
-    // The authentication path from a key up to a level, and the node that it leads to. The node beside is made first, since it needs the room in which the path below it is written afterwards: a lent array, since a device has no heap.
+    // The authentication path from a key up to a level, and the node that it leads to. The three lowest levels are made together. The node beside is made first, since it needs the room in which the path below it is written afterwards: a lent array, since a device has no heap.
     #[cycle(make_node_make_path)]
     fn make_path(&self, level: usize, key: u64, path: &mut [Number]) -> Number
         requires few { level ≤ max_levels }
