@@ -1,4 +1,5 @@
 -- The lemmas of this crate.
+pub mod Levels
 pub mod Paths
 pub mod Powers
 pub mod Walks

@@ -1,4 +1,4 @@
-// The signer's own tree: its root, its nodes and its authentication paths. Nothing holds the tree: a node is made on the walk up from its first leaf, and on that walk each leaf below it is worked out once: 2^l leaves and 2^l - 1 nodes above them for a root or a path of l levels. That what stands behind the numbers that are written is as it was is said by `drop`, which is as short as a name.
+// The signer's own tree: its root, its nodes and its authentication paths. Nothing holds the tree: a node is made on the walk up from its first leaf, and on that walk each leaf below it is worked out once, eight side by side where there are as many: 2^l leaves and 2^l - 1 nodes above them for a root or a path of l levels. That what stands behind the numbers that are written is as it was is said by `drop`, which is as short as a name.
 ghost use Rattle.std.specs.Prelude.{◌≡◌, ◌*◌, ◌/◌, ◌^◌, ◌<◌, ◌≤◌, map, length, take, drop};
 ghost use Rattle.hash.specs.Value.{value_of};
 ghost use Rattle.keys.specs.Limits.{max_levels};
@@ -8,6 +8,8 @@ ghost use Rattle.tree.specs.Tree.{node, beside, path_from};
 use crate::join;
 use hash::{Number, RowHasher};
 use keys::{Refusal, Secrets, Signer};
+
+mod eight;
 
 // The place of the other node under the same node.
 #[tactic(auto, unfolding(crate::specs::Tree::beside))]
@@ -76,7 +78,7 @@ impl<H: RowHasher> TreeMaker<H> {
         self.make_path(level, place << level, scratch)
     }
 
-    // The authentication path from a key up to a level, and the node that it leads to. The node beside is made first, since it needs the room in which the path below it is written afterwards: a lent array, since a device has no heap.
+    // The authentication path from a key up to a level, and the node that it leads to. The three lowest levels are made together. The node beside is made first, since it needs the room in which the path below it is written afterwards: a lent array, since a device has no heap.
     #[cycle(make_node_make_path)]
     fn make_path(&self, level: usize, key: u64, path: &mut [Number]) -> Number
         requires few { level ≤ max_levels }
@@ -87,6 +89,9 @@ impl<H: RowHasher> TreeMaker<H> {
     {
         if level == 0 {
             return self.secrets.key(key).leaf(self.bits);
+        }
+        if level == 3 {
+            return self.make_low_path(key, path);
         }
         let below = level - 1;
         let other = self.make_node(below, place_beside(key >> below), path);
