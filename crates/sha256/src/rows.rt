@@ -28,7 +28,13 @@ impl RowHasher for RowSha256 {
     }
 
     fn absorb(&mut self, x: &Number) {
-        self.hasher.update(&x.to_bytes());
+        let bytes = x.to_bytes();
+        // Where all have room, as they always have in a row, a copy of so many bytes is a few moves.
+        if self.hasher.length % 64 <= 32 {
+            self.hasher.take_in(&bytes);
+        } else {
+            self.hasher.update(&bytes);
+        }
     }
 
     fn finish(self) -> Number {
