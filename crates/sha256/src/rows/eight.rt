@@ -12,7 +12,7 @@ use hash::Number;
 use lanes::compress_eight;
 
 // Whether a number more fills the block of each.
-pub fn all_half_full(hashers: &[RowSha256; 8]) -> bool
+pub(super) fn all_half_full(hashers: &[RowSha256; 8]) -> bool
     ensures { IsTrue result → All HalfFull hashers.now }
 {
     let mut all = true;
@@ -48,7 +48,7 @@ impl RowSha256 {
 }
 
 // Takes in the numbers that fill the blocks, and hashes these.
-pub fn fill_eight(hashers: &mut [RowSha256; 8], numbers: &[Number; 8])
+pub(super) fn fill_eight(hashers: &mut [RowSha256; 8], numbers: &[Number; 8])
     requires { All HalfFull hashers.old }
     ensures { (rows : List (List ℕ)) → AllZip RowHeld hashers.old rows → AllZip RowHeld hashers.new (longer rows (map value_of numbers.now)) }
 {
@@ -88,7 +88,7 @@ pub fn fill_eight(hashers: &mut [RowSha256; 8], numbers: &[Number; 8])
 }
 
 // The hash values after the padding of eight rows.
-pub fn hash_padded(hashers: &[RowSha256; 8]) -> [[u32; 8]; 8]
+pub(super) fn hash_padded(hashers: &[RowSha256; 8]) -> [[u32; 8]; 8]
     ensures { (rows : List (List ℕ)) → AllZip RowHeld hashers.now rows → result ≡ map row_value rows }
 {
     let [mut a, mut b, mut c, mut d, mut e, mut f, mut g, mut h] = *hashers;
