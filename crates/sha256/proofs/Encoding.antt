@@ -5,7 +5,7 @@ use Rattle.hash.proofs.Joined.{told_by_pieces}
 use Rattle.hash.proofs.Numbers.{length-bytes, worth-bytes}
 use Rattle.sha256.specs.Rows.{row_bytes, BoundedRow, BytesTell}
 
-length-bytes_of : (x : ℕ) → length (bytes_of x) ≡ 32
+pub length-bytes_of : (x : ℕ) → length (bytes_of x) ≡ 32
 unfolding bytes_of
 length-bytes_of x = length-bytes 32 x
 

@@ -2,4 +2,5 @@
 pub mod Absorbing
 pub mod Bounds
 pub mod Digests
+pub mod Eight
 pub mod Encoding

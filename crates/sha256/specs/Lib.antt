@@ -1,4 +1,5 @@
 -- The definitions that the contracts of this crate and of those above cite.
+pub mod Eight
 pub mod Laws
 pub mod Rows
 pub mod Streams
