@@ -1,0 +1,1 @@
+-- The definitions that the contracts of this crate cite.
