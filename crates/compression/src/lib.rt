@@ -9,4 +9,4 @@ mod schedule;
 mod words;
 
 pub use block::compress;
-pub use constants::initial;
+pub use constants::{initial, ROUND_CONSTANTS};

@@ -30,3 +30,7 @@ two f {x} {y} {g} {h} p q = record {
   at = λ j lt.
       get_or-zip2 f x y j 0 0 0 (omega (arith, p.long)) (omega (arith, q.long)) ∙ ap (λ a. f a (slice_index y j)) (p.at j lt) ∙ ap (f (g j)) (q.at j lt);
 }
+
+-- the same numbers in other words
+pub so : {x : List ℕ} {g h : ℕ → ℕ} → Is x g → ((j : ℕ) → g j ≡ h j) → Is x h
+so p e = record { long = p.long; at = λ j lt. p.at j lt ∙ e j }
