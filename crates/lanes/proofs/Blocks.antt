@@ -16,11 +16,11 @@ rounds_of_eight (suc zero) W v some = refl
 rounds_of_eight (suc (suc n)) W v some = ap (round (slice_index K (suc n)) (slice_index W (suc n))) (rounds_of_eight (suc n) W v (omega arith))
 
 -- the parts of a compression, one after the other
-pub compressed_lane : (h b W s r t : List ℕ) → W ≡ schedule 48 b → s ≡ first_eight h → r ≡ rounds 64 W s → t ≡ sums r s → t ≡ compressed h b
+pub compressed_lane : (h b s r t : List ℕ) → s ≡ first_eight h → r ≡ rounds 64 (schedule 48 b) s → t ≡ sums r s → t ≡ compressed h b
 unfolding compressed
-compressed_lane h b W s r t scheduled eight done added =
-    let at_start : r ≡ rounds 64 W h = done ∙ ap (rounds 64 W) eight ∙ rounds_of_eight 64 W h (omega arith) in
-    added ∙ ap (sums r) eight ∙ ap (λ x. sums x h) (at_start ∙ ap (λ x. rounds 64 x h) scheduled)
+compressed_lane h b s r t eight done added =
+    let W = schedule 48 b in
+    added ∙ ap (sums r) eight ∙ ap (λ x. sums x h) (done ∙ ap (rounds 64 W) eight ∙ rounds_of_eight 64 W h (omega arith))
 
 pub eight_zipped : (f : List ℕ → List ℕ → List ℕ) (g : ℕ → List ℕ) (xs ys : List (List ℕ)) → length xs ≡ 8 → length ys ≡ 8
     → ((j : ℕ) → j < 8 → g j ≡ f (slice_index_or xs j []) (slice_index_or ys j [])) → map g (range_with_len 0 8) ≡ zip2 f xs ys

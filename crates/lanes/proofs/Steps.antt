@@ -1,6 +1,7 @@
 -- One turn of each loop, in one lane: a word more of a block, a word more of the schedule, a round more. Each is the turn of the loop for one block, with what a lane of a list of vectors is.
-use Rattle.std.proofs.Common.{◌≡◌, ℕ, ◌+◌, ◌<◌, List, [], ◌∷◌, take, length, slice_index, slice_index_or, slice_set, sym, ap, ◌∙◌, arith}
+use Rattle.std.proofs.Common.{◌≡◌, ℕ, ◌+◌, ◌<◌, List, [], ◌∷◌, take, length, slice_index, slice_index_or, slice_set, replicate, sym, ap, ◌∙◌, arith}
 use Rattle.std.proofs.lemmas.List.{length-map, get_or-map, map-set}
+use Rattle.std.proofs.lemmas.Simd.{get_or-replicate}
 use Rattle.compression.proofs.Steps.{word_more, scheduled_more, round_more}
 use Rattle.compression.specs.Fips180.{K, plus, words, word_after, schedule, round, rounds}
 use Rattle.lanes.specs.Lane.{lane_of, word_at}
@@ -43,3 +44,9 @@ sum_first x k w = omega arith
 -- a round makes two of the words, and moves the others
 pub moved : {x x′ y y′ a b c e f g : ℕ} → x ≡ x′ → y ≡ y′ → (x ∷ a ∷ b ∷ c ∷ y ∷ e ∷ f ∷ g ∷ []) ≡ (x′ ∷ a ∷ b ∷ c ∷ y′ ∷ e ∷ f ∷ g ∷ [])
 moved p q = cc
+
+-- the same with one schedule for all lanes
+pub round_more_alike : (W v s r : List ℕ) (t u j : ℕ) → j < 8 → u ≡ t + 1
+    → r ≡ round (slice_index K t) (slice_index (replicate 8 (slice_index W t)) j) s → s ≡ rounds t W v → r ≡ rounds u W v
+round_more_alike W v s r t u j lt next is e =
+    round_more W v s r t u next (is ∙ ap (λ x. round (slice_index K t) x s) (get_or-replicate 8 j (slice_index W t) 0 lt)) e

@@ -1,5 +1,5 @@
 -- What one lane of vectors is. Assumes nothing: these are definitions.
-use Rattle.std.specs.Prelude.{ℕ, ◌+◌, ◌*◌, List, [], ◌∷◌, map, slice_index}
+use Rattle.std.specs.Prelude.{◌≡◌, ℕ, ◌+◌, ◌*◌, ◌<◌, List, [], ◌∷◌, map, slice_index, slice_index_or}
 use Rattle.std.specs.List.{range_with_len}
 use Rattle.std.specs.Int.{w32, from_be_bytes}
 use Rattle.lanes.specs.declared.state.State.{State}
@@ -21,3 +21,7 @@ first_eight v = map (slice_index v) (range_with_len 0 8)
 -- word t of a block, as the definition of its words has it
 abbrev pub word_at : ℕ → List ℕ → ℕ
 word_at t b = from_be_bytes w32 (slice_index b (4 * t) ∷ slice_index b (4 * t + 1) ∷ slice_index b (4 * t + 2) ∷ slice_index b (4 * t + 3) ∷ [])
+
+-- the eight blocks are all the same
+abbrev pub Alike : List (List ℕ) → Type 0
+Alike bs = (j : ℕ) → j < 8 → slice_index_or bs j [] ≡ slice_index_or bs 0 []

@@ -62,3 +62,29 @@ pub fn all_rounds(start: State, w: &[u32x8; 64]) -> State
     }
     s
 }
+
+// The same with one schedule for all lanes.
+fn eight_rounds_alike(s: State, w: &[u32; 64], t: usize) -> State
+    requires { t + 8 ≤ 64 }
+    ensures { (j : ℕ) → j < 8 → (v : List ℕ) → lane j s ≡ rounds t w.now v → lane j result ≡ rounds (t + 8) w.now v }
+{
+    let s = one_round(s, ROUND_CONSTANTS[t], u32x8::splat(w[t]));
+    let s = one_round(s, ROUND_CONSTANTS[t + 1], u32x8::splat(w[t + 1]));
+    let s = one_round(s, ROUND_CONSTANTS[t + 2], u32x8::splat(w[t + 2]));
+    let s = one_round(s, ROUND_CONSTANTS[t + 3], u32x8::splat(w[t + 3]));
+    let s = one_round(s, ROUND_CONSTANTS[t + 4], u32x8::splat(w[t + 4]));
+    let s = one_round(s, ROUND_CONSTANTS[t + 5], u32x8::splat(w[t + 5]));
+    let s = one_round(s, ROUND_CONSTANTS[t + 6], u32x8::splat(w[t + 6]));
+    one_round(s, ROUND_CONSTANTS[t + 7], u32x8::splat(w[t + 7]))
+}
+
+pub fn all_rounds_alike(start: State, w: &[u32; 64]) -> State
+    ensures { (j : ℕ) → j < 8 → lane j result ≡ rounds 64 w.now (lane j start) }
+{
+    let mut s = start;
+    for i in 0..8 {
+        let next = eight_rounds_alike(s, w, 8 * i);
+        s = next;
+    }
+    s
+}

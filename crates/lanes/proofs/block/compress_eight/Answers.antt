@@ -1,7 +1,7 @@
--- In each lane, the schedule, the rounds and the addition.
+-- In each lane, the rounds and the addition.
 use Rattle.std.proofs.Common.{[], slice_index_or, ◌∙◌, rules}
 use Rattle.compression.specs.Fips180.{compressed}
-use Rattle.lanes.specs.Lane.{lane, lane_of}
+use Rattle.lanes.specs.Lane.{lane}
 use Rattle.lanes.proofs.Blocks.{compressed_lane, eight_zipped}
 use Rattle.lanes.proofs.block.compress_eight.Goals as goal
 
@@ -11,6 +11,5 @@ returns c =
     let bs = c.args.blocks.now in
     c.into_states.ensures
     ∙ eight_zipped compressed (λ j. lane j c.add.result) hs bs (search rules) (search rules) (λ j lt.
-    let b = slice_index_or bs j [] in
-    compressed_lane (slice_index_or hs j []) b (lane_of j c.expand.new.w) (lane j c.from_states-s.result) (lane j c.all_rounds.result) (lane j c.add.result)
-    (c.expand.ensures j lt b (c.load.ensures j lt)) (c.from_states-s.ensures j lt) (c.all_rounds.ensures j lt) (c.add.ensures j lt))
+    compressed_lane (slice_index_or hs j []) (slice_index_or bs j []) (lane j c.from_states-start.result) (lane j c.rounds_of_blocks.result) (lane j c.add.result)
+    (c.from_states-start.ensures j lt) (c.rounds_of_blocks.ensures j lt) (c.add.ensures j lt))
