@@ -1,5 +1,5 @@
 -- The lemmas of this crate.
-mod Bits
+pub mod Bits
 mod Examples
 mod Padding
 mod Roots

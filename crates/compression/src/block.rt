@@ -3,7 +3,7 @@ ghost use Rattle.std.specs.Prelude.{◌≡◌};
 ghost use Rattle.compression.specs.Fips180.{sums, compressed};
 
 use crate::rounds::all_rounds;
-use crate::schedule::{expand, load};
+use crate::schedule::message_schedule;
 
 fn add(v: [u32; 8], state: [u32; 8]) -> [u32; 8]
     ensures { result ≡ sums v state }
@@ -27,7 +27,6 @@ pub fn compress(state: [u32; 8], block: &[u8; 64]) -> [u32; 8]
     ensures { result ≡ compressed state block.now }
 {
     let mut w = [0; 64];
-    load(block, &mut w);
-    expand(&mut w);
+    message_schedule(block, &mut w);
     add(all_rounds(state, &w), state)
 }

@@ -9,4 +9,5 @@ mod schedule;
 mod words;
 
 pub use block::compress;
-pub use constants::initial;
+pub use constants::{ROUND_CONSTANTS, initial};
+pub use schedule::message_schedule;

@@ -5,7 +5,7 @@ ghost use Rattle.compression.specs.Fips180.{words, word_after, schedule};
 use crate::words::{small_sigma_0, small_sigma_1};
 
 // Writes the words of a block in front. Into a lent array, since one that is given back is copied.
-pub fn load(block: &[u8; 64], w: &mut [u32; 64])
+fn load(block: &[u8; 64], w: &mut [u32; 64])
     ensures { take 16 w.new ≡ words 16 block.now }
 {
     for t in 0..16 {
@@ -20,7 +20,7 @@ pub fn load(block: &[u8; 64], w: &mut [u32; 64])
 
 // The word of the schedule after those of sixteen, fifteen, seven and two places before.
 #[tactic(auto, unfolding(crate::specs::Fips180::word_after))]
-pub fn next_word(w16: u32, w15: u32, w7: u32, w2: u32) -> u32
+fn next_word(w16: u32, w15: u32, w7: u32, w2: u32) -> u32
     ensures { result ≡ word_after w16 w15 w7 w2 }
 {
     small_sigma_1(w2)
@@ -41,10 +41,18 @@ fn eight_words(w: &mut [u32; 64], t: usize)
 }
 
 // Writes the words behind those of the block.
-pub fn expand(w: &mut [u32; 64])
+fn expand(w: &mut [u32; 64])
     ensures { (b : List ℕ) → take 16 w.old ≡ words 16 b → w.new ≡ schedule 48 b }
 {
     for i in 0..6 {
         eight_words(w, 8 * i);
     }
+}
+
+// Writes the whole schedule of a block.
+pub fn message_schedule(block: &[u8; 64], w: &mut [u32; 64])
+    ensures { w.new ≡ schedule 48 block.now }
+{
+    load(block, w);
+    expand(w);
 }

@@ -1,2 +1,4 @@
 -- The lemmas of this crate.
-pub mod Eights
+pub mod Each
+pub mod Steps
+pub mod Blocks
