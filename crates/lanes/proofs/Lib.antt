@@ -1,4 +1,4 @@
 -- The lemmas of this crate.
+mod Blocks
 mod Each
 mod Steps
-mod Blocks
