@@ -1,4 +1,4 @@
 -- The lemmas of this crate.
-pub mod Each
-pub mod Steps
-pub mod Blocks
+mod Blocks
+mod Each
+mod Steps

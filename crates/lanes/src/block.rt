@@ -10,7 +10,7 @@ use crate::state::{State, add, from_states, into_states};
 use compression::message_schedule;
 use std::simd::prelude::*;
 
-// Whether the blocks are all the same, as the last ones of messages of one length often are.
+// Whether the blocks are all the same, as the last ones of eight messages that end alike.
 fn alike(blocks: &[[u8; 64]; 8]) -> bool
     ensures { IsTrue result ↔ Alike blocks.now }
 {

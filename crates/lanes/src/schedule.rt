@@ -46,6 +46,7 @@ pub fn load(blocks: &[[u8; 64]; 8], w: &mut [u32x8; 64])
     }
 }
 
+// The words after those of sixteen, fifteen, seven and two places before.
 fn next_word(w16: u32x8, w15: u32x8, w7: u32x8, w2: u32x8) -> u32x8
     ensures { (j : ℕ) → j < 8 → slice_index result j ≡ word_after (slice_index w16 j) (slice_index w15 j) (slice_index w7 j) (slice_index w2 j) }
 {

@@ -1,5 +1,5 @@
 // Eight hash values side by side, a vector for each of their words.
-ghost use Rattle.std.specs.Prelude.{◌≡◌, ℕ, ◌<◌, List, [], map, slice_index, slice_index_or};
+ghost use Rattle.std.specs.Prelude.{◌≡◌, ℕ, ◌<◌, [], map, slice_index, slice_index_or};
 ghost use Rattle.std.specs.List.{range_with_len};
 ghost use Rattle.compression.specs.Fips180.{sums};
 ghost use Rattle.lanes.specs.Lane.{lane, lane_of, first_eight};

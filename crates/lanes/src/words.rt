@@ -1,9 +1,10 @@
-// The functions of words on eight words at once. There is no rotation of lanes: it is two shifts.
+// The functions of words, on eight words at once.
 ghost use Rattle.std.specs.Prelude.{◌≡◌, ℕ, ◌<◌, slice_index};
-ghost use Rattle.compression.specs.Fips180.{plus, rotr, ch, maj, Σ₀, Σ₁, σ₀, σ₁, word_after};
+ghost use Rattle.compression.specs.Fips180.{rotr, ch, maj, Σ₀, Σ₁, σ₀, σ₁};
 
 use std::simd::prelude::*;
 
+// Vectors have no rotation of lanes: it is two shifts.
 #[inline(always)]
 fn rotate_right(x: u32x8, n: u32) -> u32x8
     requires { (0 < n) × (n < 32) }
@@ -12,12 +13,14 @@ fn rotate_right(x: u32x8, n: u32) -> u32x8
     (x >> u32x8::splat(n)) | (x << u32x8::splat(32 - n))
 }
 
+// As the standard has it, since `!x & z` is one operation on vectors.
 pub fn choose(x: u32x8, y: u32x8, z: u32x8) -> u32x8
     ensures { (j : ℕ) → j < 8 → slice_index result j ≡ ch (slice_index x j) (slice_index y j) (slice_index z j) }
 {
     (x & y) ^ (!x & z)
 }
 
+// In fewer operations than the standard has. What is `x ^ y` here is `y ^ z` in the next round.
 pub fn majority(x: u32x8, y: u32x8, z: u32x8) -> u32x8
     ensures { (j : ℕ) → j < 8 → slice_index result j ≡ maj (slice_index x j) (slice_index y j) (slice_index z j) }
 {
