@@ -1,8 +1,9 @@
-// The block function of SHA-256: its words, its constants, and the next hash value from one and a block.
+// The block function of SHA-256: its words, its constants, the schedule of a block, and the next hash value from one and a block.
 #![tactic(auto)]
 
 mod block;
 mod constants;
+mod ends;
 pub mod laws;
 mod rounds;
 mod schedule;
@@ -10,4 +11,4 @@ mod words;
 
 pub use block::compress;
 pub use constants::{ROUND_CONSTANTS, initial};
-pub use schedule::message_schedule;
+pub use ends::schedule_of;

@@ -7,7 +7,7 @@ ghost use Rattle.lanes.specs.Lane.{lane, Alike};
 use crate::rounds::{all_rounds, all_rounds_alike};
 use crate::schedule::{expand, load};
 use crate::state::{State, add, from_states, into_states};
-use compression::message_schedule;
+use compression::schedule_of;
 use std::simd::prelude::*;
 
 // Whether the blocks are all the same, as the last ones of eight messages that end alike.
@@ -23,9 +23,7 @@ fn rounds_of_blocks(start: State, blocks: &[[u8; 64]; 8]) -> State
     ensures { (j : ℕ) → j < 8 → lane j result ≡ rounds 64 (schedule 48 (slice_index_or blocks.now j [])) (lane j start) }
 {
     if alike(blocks) {
-        let mut w = [0; 64];
-        message_schedule(&blocks[0], &mut w);
-        all_rounds_alike(start, &w)
+        all_rounds_alike(start, &schedule_of(&blocks[0]))
     } else {
         let mut w = [u32x8::splat(0); 64];
         load(blocks, &mut w);

@@ -6,7 +6,7 @@ use Rattle.lanes.proofs.block.rounds_of_blocks.Goals as goal
 
 pub returns-then-alike : goal.returns-then-alike
 returns-then-alike c = λ j lt.
-    let once = c.message_schedule.ensures ∙ ap (schedule 48) (sym (c.alike.ensures.0 (search rules) j lt)) in
+    let once = c.schedule_of.ensures ∙ ap (schedule 48) (sym (c.alike.ensures.0 (search rules) j lt)) in
     c.all_rounds_alike.ensures j lt ∙ ap (λ W. rounds 64 W (lane j c.args.start)) once
 
 pub returns-else-alike : goal.returns-else-alike
