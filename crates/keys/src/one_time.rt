@@ -8,7 +8,7 @@ use hash::{Number, Purpose, RowHasher};
 mod eight;
 
 use eight::absorb_eight_bits;
-pub use eight::{EightPairs, show_eight};
+pub use eight::{EightPairs, eight_from, show_eight};
 
 // All secret numbers of a seed. The rows that they are the hashes of begin alike, so what begins each of them is taken in once, and copied.
 #[derive(Drop)]

@@ -58,20 +58,19 @@ fn absorb_shown<H: RowHasher>(hashers: &mut [H; 8], pairs: &EightPairs)
     H::absorb_eight(hashers, &show_eight::<H>(&pairs.set));
 }
 
-// The eight places from one on.
-fn eight_from(first: u64) -> [u64; 8]
-    requires { first + 8 ≤ 2 ^ 64 }
-    ensures { result ≡ range_with_len first 8 }
+// The eight numbers from one on, where they all fit.
+pub fn eight_from(first: u64) -> [u64; 8]
+    ensures { first + 8 ≤ 2 ^ 64 → result ≡ range_with_len first 8 }
 {
     [
         first,
-        first + 1,
-        first + 2,
-        first + 3,
-        first + 4,
-        first + 5,
-        first + 6,
-        first + 7,
+        first.wrapping_add(1),
+        first.wrapping_add(2),
+        first.wrapping_add(3),
+        first.wrapping_add(4),
+        first.wrapping_add(5),
+        first.wrapping_add(6),
+        first.wrapping_add(7),
     ]
 }
 

@@ -1,6 +1,5 @@
 // The three lowest levels of the tree: the eight leaves below a node of level 3 are worked out side by side, and the nodes above them are made of them.
-ghost use Rattle.std.specs.Prelude.{◌≡◌, ◌*◌, ◌/◌, ◌^◌, ◌≤◌, map, length, take, drop};
-ghost use Rattle.std.specs.List.{range_with_len};
+ghost use Rattle.std.specs.Prelude.{◌≡◌, ◌/◌, ◌^◌, ◌≤◌, map, length, take, drop};
 ghost use Rattle.hash.specs.Value.{value_of};
 ghost use Rattle.tree.specs.Tree.{node, path_from};
 ghost use Rattle.tree.specs.Levels.{above};
@@ -8,23 +7,7 @@ ghost use Rattle.tree.specs.Levels.{above};
 use super::{TreeMaker, place_beside};
 use crate::parent;
 use hash::{Number, RowHasher};
-
-// The eight keys below the node of level 3 that a key is below.
-fn eight_keys(key: u64) -> [u64; 8]
-    ensures { result ≡ range_with_len (8 * (key / 8)) 8 }
-{
-    let first = key - key % 8;
-    [
-        first,
-        first + 1,
-        first + 2,
-        first + 3,
-        first + 4,
-        first + 5,
-        first + 6,
-        first + 7,
-    ]
-}
+use keys::eight_from;
 
 // The four nodes above eight.
 fn four_above<H: RowHasher>(nodes: &[Number; 8]) -> [Number; 4]
@@ -48,14 +31,15 @@ fn two_above<H: RowHasher>(nodes: &[Number; 4]) -> [Number; 2]
 }
 
 impl<H: RowHasher> TreeMaker<H> {
-    // The authentication path from a key up to level 3, and the node that it leads to. Its numbers are among those that the node is made of.
+    // The authentication path from a key up to level 3, and the node that it leads to, both from the eight leaves below that node.
     pub(super) fn make_low_path(&self, key: u64, path: &mut [Number]) -> Number
         requires { 3 ≤ length path.old }
         ensures value { value_of result ≡ node H.mix self.now.bits (value_of self.now.secrets.seed) 3 (key / 2 ^ 3) }
         ensures path { map value_of (take 3 path.new) ≡ path_from H.mix self.now.bits (value_of self.now.secrets.seed) 0 3 key }
         ensures rest { drop 3 path.new ≡ drop 3 path.old }
     {
-        let leaves = self.secrets.leaves(&eight_keys(key), self.bits);
+        let eight = eight_from(key - key % 8);
+        let leaves = self.secrets.leaves(&eight, self.bits);
         let pairs = four_above::<H>(&leaves);
         let halves = two_above::<H>(&pairs);
         path[0] = leaves[(place_beside(key) % 8) as usize];

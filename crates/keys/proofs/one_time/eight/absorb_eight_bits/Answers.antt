@@ -17,8 +17,9 @@ loop-k-preserved g c = λ held.
     let i = c.args.key.now.index in
     let first = c.args.first in
     let k = c.loop-k.k in
-    let unset = shown_at h s i first false c.show_eight-unset.result _ _ k c.index-unset-k.result c.loop-k-test.true c.eight_from.ensures c.eight_pairs-pairs.ensures.unset c.show_eight-unset.ensures in
-    let set = shown_at h s i first true c.show_eight-set.result _ _ k c.index-set-k.result c.loop-k-test.true c.eight_from.ensures c.eight_pairs-pairs.ensures.set c.show_eight-set.ensures in
+    let places = c.eight_from.ensures (omega arith) in
+    let unset = shown_at h s i first false c.show_eight-unset.result _ _ k c.index-unset-k.result c.loop-k-test.true places c.eight_pairs-pairs.ensures.unset c.show_eight-unset.ensures in
+    let set = shown_at h s i first true c.show_eight-set.result _ _ k c.index-set-k.result c.loop-k-test.true places c.eight_pairs-pairs.ensures.set c.show_eight-set.ensures in
     subst (λ (n : ℕ). g.H.RowHasher.holds c.absorb-in-loop-k.new.self (leaf_row h n s i)) (omega arith)
     (leaf_more h s i (first + k) _ _ g.H.RowHasher.holds c.loop-k.hasher c.absorb.new.self c.absorb-in-loop-k.new.self unset set (c.loop-k.invariant held) c.absorb.ensures c.absorb-in-loop-k.ensures)
 

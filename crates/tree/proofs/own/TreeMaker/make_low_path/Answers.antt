@@ -1,5 +1,6 @@
 -- The levels are told one after another, and then the node that the path leads to, and the path.
-use Rattle.std.proofs.Common.{◌/◌, rules}
+use Rattle.std.proofs.Common.{◌≡◌, ℕ, ◌*◌, ◌/◌, ap, ◌∙◌, arith, rules}
+use Rattle.std.specs.List.{range_with_len}
 use Rattle.hash.specs.Value.{value_of}
 use Rattle.tree.proofs.Levels.{low_leaves, low_pairs, low_halves, low_root, low_path}
 use Rattle.tree.proofs.own.TreeMaker.make_low_path.Goals as goal
@@ -10,7 +11,9 @@ returns g c =
     let n = c.args.self.now.bits in
     let s = value_of c.args.self.now.secrets.seed in
     let x = c.args.key in
-    let leaves = low_leaves value_of h n s (x / 8) c.eight_keys.result c.leaves-leaves.result c.leaves-leaves.ensures c.eight_keys.ensures in
+    let small = c.ranges.key.fits in
+    let eight : c.eight_from-eight.result ≡ range_with_len (8 * (x / 8)) 8 = c.eight_from-eight.ensures (omega (arith, small)) ∙ ap (λ (i : ℕ). range_with_len i 8) (omega arith) in
+    let leaves = low_leaves value_of h n s (x / 8) c.eight_from-eight.result c.leaves-leaves.result c.leaves-leaves.ensures eight in
     let pairs = low_pairs value_of h n s (x / 8) c.leaves-leaves.result c.four_above-pairs.result leaves c.four_above-pairs.ensures in
     let halves = low_halves value_of h n s (x / 8) c.four_above-pairs.result c.two_above-halves.result pairs c.two_above-halves.ensures in
     record {
