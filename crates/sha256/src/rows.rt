@@ -32,7 +32,7 @@ impl RowHasher for RowSha256 {
 
     fn absorb(&mut self, x: &Number) {
         let bytes = x.to_bytes();
-        // Where all have room, as they always have in a row, a copy of so many bytes is a few moves.
+        // In a row all thirty-two have room, and a copy of so many is a few moves.
         if self.hasher.length % 64 <= 32 {
             self.hasher.take_in(&bytes);
         } else {
