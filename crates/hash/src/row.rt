@@ -1,5 +1,6 @@
 // The hash over rows of numbers, fed number by number so that no row is ever held.
-ghost use Rattle.std.specs.Prelude.{◌≡◌, ℕ, List, [], ◌∷◌, ◌++◌, map};
+ghost use Rattle.std.specs.Prelude.{◌≡◌, ℕ, ◌*◌, ◌^◌, ◌<◌, List, [], ◌∷◌, ◌++◌, map};
+ghost use Rattle.std.specs.Mem.{type_size};
 ghost use Rattle.std.specs.List.{AllZip};
 ghost use Rattle.hash.specs.Rows.{longer};
 ghost use Rattle.hash.specs.Tag.{tag};
@@ -42,6 +43,9 @@ pub trait RowHasher: Sized + Copy {
         }
         hashes
     }
+
+    // Eight hashers fit in memory, so that they can be lent side by side.
+    ghost eight_fit: { 8 * type_size Self.row < 2 ^ 63 };
 
     // The hash of a short row that is at hand.
     final fn hash(purpose: Purpose, numbers: &[Number]) -> Number

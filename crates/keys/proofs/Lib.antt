@@ -1,3 +1,4 @@
 -- The lemmas of this crate.
+pub mod Eights
 pub mod Refused
 pub mod Shown

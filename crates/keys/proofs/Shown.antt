@@ -4,7 +4,7 @@ use Rattle.hash.specs.Mix.{Mix}
 use Rattle.hash.proofs.Rows.{held_two}
 use Rattle.keys.specs.Keys.{secret, shown, shown_all}
 
-shown_all_push : (h : Mix) (s i j n k : ℕ) → j + n ≡ k →
+pub shown_all_push : (h : Mix) (s i j n k : ℕ) → j + n ≡ k →
     shown_all h s i j (suc n) ≡ shown_all h s i j n ++ (shown h (secret h s i k false) ∷ shown h (secret h s i k true) ∷ [])
 unfolding shown_all
 shown_all_push h s i j zero k e =

@@ -6,5 +6,5 @@ pub mod one_time;
 pub mod refusal;
 
 pub use limits::Signer;
-pub use one_time::{OneTimeKey, Secrets, show, show_eight};
+pub use one_time::{EightPairs, OneTimeKey, Secrets, show, show_eight};
 pub use refusal::Refusal;

@@ -7,7 +7,7 @@ use hash::{Number, Purpose, RowHasher};
 
 mod eight;
 
-pub use eight::show_eight;
+pub use eight::{EightPairs, show_eight};
 
 // All secret numbers of a seed. The rows that they are the hashes of begin alike, so what begins each of them is taken in once, and copied.
 #[derive(Drop)]

@@ -1,4 +1,5 @@
 // SHA-256 as the hash of rows of numbers.
+ghost use Rattle.std.proofs.Common.{rules};
 ghost use Rattle.sha256.specs.Rows.{row_bytes, row_hash};
 ghost use Rattle.sha256.specs.Streams.{Holds};
 
@@ -15,6 +16,8 @@ impl RowHasher for RowSha256 {
     ghost mix = { row_hash };
 
     ghost holds = { λ s xs. Holds s.hasher (row_bytes xs) };
+
+    ghost eight_fit = { Prim.search rules };
 
     fn start(purpose: Purpose) -> RowSha256 {
         let mut rows = RowSha256 {
