@@ -1,5 +1,5 @@
 -- Eight bits more, in both rows, and the odd rest.
-use Rattle.std.proofs.Common.{◌*◌, ◌<◌, ◌≡◌, ◌/◌, not, length, refl, arith, rules}
+use Rattle.std.proofs.Common.{◌*◌, ◌<◌, ◌≤◌, ◌≡◌, ◌/◌, not, length, refl, arith, rules}
 use Rattle.hash.specs.Value.{value_of}
 use Rattle.keys.specs.Keys.{secret, shown}
 use Rattle.signatures.specs.Signatures.{each_from}
@@ -22,11 +22,13 @@ loop-i-preserved g c =
     let own = c.copy_from_slice.ensures.after in
     let other = c.copy_from_slice-in-loop-i.ensures.after in
     let now = c.reveal_eight.result in
+    let room : length bs ≤ length c.loop-i.parts = omega arith in
+    let room-2 : length bs ≤ length c.loop-i.others = omega arith in
     let before : i < length bs / 8 = omega (arith, c.as_chunks.ensures.front_len) in
     let eight : length now.0 ≡ 8 = search rules in
     let eight-2 : length now.1 ≡ 8 = search rules in
-    let parts = eight_more value_of (secret h s k) bs _ c.as_chunks.result.0.now c.loop-i.parts now.0 _ i _ front before (omega arith) own eight c.reveal_eight.ensures.parts inv.0 in
-    let others = eight_more value_of (λ j b. shown h (secret h s k j (not b))) bs _ c.as_chunks.result.0.now c.loop-i.others now.1 _ i _ front before (omega arith) other eight-2 c.reveal_eight.ensures.others inv.1 in
+    let parts = eight_more value_of (secret h s k) bs _ c.as_chunks.result.0.now c.loop-i.parts now.0 _ i _ front before room own eight c.reveal_eight.ensures.parts inv.0 in
+    let others = eight_more value_of (λ j b. shown h (secret h s k j (not b))) bs _ c.as_chunks.result.0.now c.loop-i.others now.1 _ i _ front before room-2 other eight-2 c.reveal_eight.ensures.others inv.1 in
     (parts, others, behind_eight c.loop-i.parts c.args.parts.now now.0 _ i (omega arith) own eight inv.2, behind_eight c.loop-i.others c.args.others.now now.1 _ i (omega arith) other eight-2 inv.3)
 
 pub returns-clause-parts : goal.returns-clause-parts
