@@ -1,22 +1,22 @@
 -- One bit further, and the end.
-use Rattle.std.proofs.Common.{◌≡◌, length, ap, arith}
+use Rattle.std.proofs.Common.{◌≡◌, ◌++◌, length, map, subst, arith}
 use Rattle.hash.specs.Value.{value_of}
-use Rattle.signatures.proofs.Leaves.{left_next, left_none, shown_next, shown_none}
+use Rattle.keys.specs.Keys.{shown}
+use Rattle.signatures.proofs.Leaves.{told_parts, absorbing_next, absorbed}
 use Rattle.signatures.proofs.verifying.absorb_parts.Goals as goal
 
 pub loop-bit-preserved : goal.loop-bit-preserved
 loop-bit-preserved g c =
-    let inv = c.loop-bit.invariant in
     let step = c.in-Some.ensures.steps in
-    let lb = ap length step.0.0 in
-    let lp = ap length step.0.1 in
-    let lo = ap length step.1 in
-    let next = shown_next value_of g.H.RowHasher.mix c.in-Some.bit.now c.in-Some.part.now c.in-Some.other.now (value_of c.show.result) _ _ _ _ _ _ step.0.0 step.0.1 step.1 c.show.ensures in
-    (omega arith, omega arith, λ row held. left_next g.H.RowHasher.holds _ _ _ _ _ _ next c.absorb_pair.ensures (inv.2 row held))
+    let now = c.loop-bit.bit-iterator in
+    let next = c.next.new.self in
+    absorbing_next g.H.RowHasher.holds (λ p. shown g.H.RowHasher.mix (value_of p)) value_of c.args.hasher.now c.loop-bit.hasher c.absorb_pair.new.hasher _ c.in-Some.bit.now c.in-Some.part.now c.in-Some.other.now (value_of c.show.result) now.a.a.rest.now next.a.a.rest.now now.a.b.rest.now next.a.b.rest.now now.b.rest.now next.b.rest.now step.0.0 step.0.1 step.1 c.show.ensures c.absorb_pair.ensures c.loop-bit.invariant
 
 pub returns : goal.returns
 returns g c =
-    let inv = c.loop-bit.invariant in
+    let left = c.loop-bit.bit-iterator in
     let none = c.in-None.ensures.steps in
-    let z : length c.loop-bit.bit-iterator.a.a.rest.now ≡ 0 = omega (arith, none) in
-    λ row held. left_none g.H.RowHasher.holds _ _ _ (shown_none g.H.RowHasher.mix _ _ _ z) (inv.2 row held)
+    let end : length left.a.a.rest.now ≡ 0 = omega (arith, none) in
+    λ row held.
+    subst (λ xs. g.H.RowHasher.holds c.loop-bit.hasher (row ++ xs)) (told_parts value_of g.H.RowHasher.mix c.args.bits.now c.args.parts.now (map value_of c.args.others.now))
+    (absorbed g.H.RowHasher.holds (λ p. shown g.H.RowHasher.mix (value_of p)) value_of c.args.hasher.now c.loop-bit.hasher _ left.a.a.rest.now left.a.b.rest.now left.b.rest.now end c.loop-bit.invariant row held)

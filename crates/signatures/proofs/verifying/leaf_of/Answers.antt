@@ -2,7 +2,7 @@
 use Rattle.std.proofs.Common.{◌≡◌, ◌∷◌, [], map, length, ap, refl, arith, rules}
 use Rattle.hash.specs.Value.{value_of}
 use Rattle.keys.specs.Keys.{shown}
-use Rattle.signatures.proofs.Leaves.{length_shown, rejoined, shown_chunk, left_next}
+use Rattle.signatures.proofs.Leaves.{length_shown, rejoined, chunk_next}
 use Rattle.signatures.proofs.verifying.leaf_of.Goals as goal
 
 pub loop-bits-init : goal.loop-bits-init
@@ -21,11 +21,12 @@ loop-bits-init g c =
 
 pub loop-bits-preserved : goal.loop-bits-preserved
 loop-bits-preserved g c =
-    let inv = c.loop-bits.invariant in
     let step = c.in-Some.ensures.steps in
-    let lb = ap length step.0.0 in
-    let lp = ap length step.0.1 in
-    let lo = ap length step.1 in
-    let eight = length_shown value_of value_of (shown g.H.RowHasher.mix) c.in-Some.parts.now c.show_eight.result c.show_eight.ensures in
-    let next = shown_chunk value_of g.H.RowHasher.mix c.in-Some.bits.now _ _ c.in-Some.parts.now c.in-Some.others.now _ _ _ _ c.as_chunks.result.1.now c.as_chunks-2.result.1.now c.as_chunks-3.result.1.now step.0.0 step.0.1 step.1 (omega (arith, eight)) (omega arith) in
-    (omega arith, omega arith, left_next g.H.RowHasher.holds _ _ _ _ _ _ next (λ row. c.absorb_pairs.ensures row (map value_of c.in-Some.parts.now) c.show_eight.ensures) inv.2)
+    let parts = c.in-Some.parts.now in
+    let now = c.loop-bits.bits-iterator in
+    let next = c.next.new.self in
+    let eight = length_shown value_of value_of (shown g.H.RowHasher.mix) parts c.show_eight.result c.show_eight.ensures in
+    let own : length parts ≡ length c.in-Some.bits.now = omega (arith, eight) in
+    let other : length c.in-Some.others.now ≡ length c.in-Some.bits.now = omega arith in
+    chunk_next g.H.RowHasher.holds g.H.RowHasher.mix value_of c.as_chunks.result.1.now c.as_chunks-2.result.1.now c.as_chunks-3.result.1.now _ c.loop-bits.hasher c.absorb_pairs.new.hasher c.in-Some.bits.now parts c.in-Some.others.now
+    now.a.a.rest.now next.a.a.rest.now now.a.b.rest.now next.a.b.rest.now now.b.rest.now next.b.rest.now step.0.0 step.0.1 step.1 own other (λ row. c.absorb_pairs.ensures row (map value_of parts) c.show_eight.ensures) c.loop-bits.invariant
