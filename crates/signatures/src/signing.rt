@@ -78,7 +78,7 @@ fn reveal_odd<H: RowHasher>(
     }
 }
 
-// Writes for each bit its secret number, and what is shown of the other one, and nothing behind them (said by `drop`, which is as short as a name). Into lent arrays, since a device has no heap.
+// Writes for each bit its secret number, and what is shown of the other one, and nothing behind them (said by `drop`, which is as short as a name). Into lent arrays, since a device has no heap. Eight bits at a time, since their numbers are worked out and shown faster together.
 fn reveal<H: RowHasher>(
     key: &OneTimeKey<'_, H>,
     bits: &[bool],
