@@ -1,5 +1,10 @@
 -- A number for each bit: how many there are, which, and one more of them.
-use Rattle.std.proofs.Common.{◌≡◌, ℕ, zero, suc, ◌+◌, ◌<◌, Bool, false, List, [], ◌∷◌, ◌++◌, map, length, get_or, take, set, sym, refl, ap, ◌∙◌, inl, inr, zero-add, add-one, arith}
+use Rattle.std.proofs.Common.{◌≡◌, ℕ, zero, suc, ◌+◌, ◌<◌, Bool, false, List, [], ◌∷◌, ◌++◌, map, length, get_or, replicate, take, set, sym, refl, ap, ◌∙◌, inl, inr, add-one, arith}
+use Rattle.std.specs.List.{range_with_len}
+use Rattle.std.specs.Simd.Lanes.{zip2}
+use Rattle.std.proofs.lemmas.Simd.{zip2_splat_left}
+use Rattle.std.proofs.lemmas.List.{get_or-map, length-map}
+use Rattle.std.proofs.lemmas.List.FromFn.{get_or-map-range_with_len, length-range_with_len, length-map-range_with_len}
 use Rattle.hash.specs.Members.{In}
 use Rattle.hash.proofs.Fronts.{front_more}
 use Rattle.signatures.specs.Signatures.{each_from}
@@ -30,7 +35,28 @@ each_push f o (b ∷ bs) zero j h e = ap (λ (y : ℕ). f y b ∷ []) (omega ari
 each_push f o (b ∷ bs) (suc k) j h e = ap (λ (ys : List ℕ). f o b ∷ ys) (each_push f (suc o) bs k j (omega arith) (omega arith))
 
 -- one turn of a loop that writes such numbers: v is what x means
-pub each_more : {X : Type 0} (v : X → ℕ) (f : ℕ → Bool → ℕ) (bs : List Bool) (xs : List X) (k : ℕ) (x : X) → k < length bs → k < length xs → v x ≡ f k (get_or bs k false) →
-    map v (take k xs) ≡ each_from f 0 (take k bs) → map v (take (k + 1) (set xs k x)) ≡ each_from f 0 (take (k + 1) bs)
-each_more v f bs xs k x hb hx e so_far =
-    let p = each_push f 0 bs k k hb (zero-add k) in front_more v xs k x hx ∙ (rw (so_far, e, add-one k) (sym p))
+pub each_more : {X : Type 0} (v : X → ℕ) (f : ℕ → Bool → ℕ) (o : ℕ) (bs : List Bool) (xs : List X) (k : ℕ) (x : X) → k < length bs → k < length xs → v x ≡ f (o + k) (get_or bs k false) →
+    map v (take k xs) ≡ each_from f o (take k bs) → map v (take (k + 1) (set xs k x)) ≡ each_from f o (take (k + 1) bs)
+each_more v f o bs xs k x hb hx e so_far =
+    let p = each_push f o bs k (o + k) hb refl in front_more v xs k x hx ∙ (rw (so_far, e, add-one k) (sym p))
+
+-- each of them hashed
+pub map-each : (s : ℕ → ℕ) (f : ℕ → Bool → ℕ) (o : ℕ) (bs : List Bool) → map s (each_from f o bs) ≡ each_from (λ k b. s (f k b)) o bs
+unfolding each_from
+map-each s f o [] = refl
+map-each s f o (b ∷ bs) = ap (λ (xs : List ℕ). s (f o b) ∷ xs) (map-each s f (suc o) bs)
+
+pub each_append : (f : ℕ → Bool → ℕ) (o : ℕ) (bs cs : List Bool) (k : ℕ) → o + length bs ≡ k → each_from f o (bs ++ cs) ≡ each_from f o bs ++ each_from f k cs
+unfolding each_from
+each_append f o [] cs k e = ap (λ (y : ℕ). each_from f y cs) (omega arith)
+each_append f o (b ∷ bs) cs k e = ap (λ (xs : List ℕ). f o b ∷ xs) (each_append f (suc o) bs cs k (omega arith))
+
+-- a number of many that are given by their places
+pub number_at : {X : Type 0} (v : X → ℕ) (f : ℕ → ℕ) (o n k : ℕ) (xs : List X) (d : X) → map v xs ≡ map f (range_with_len o n) → k < n → v (get_or xs k d) ≡ f (o + k)
+number_at v f o n k xs d e h =
+    let long : k < length xs = omega (arith, h, ap length e, length-map xs v, length-map-range_with_len f o n) in
+    sym (get_or-map v xs k d (v d) long) ∙ (ap (λ (ys : List ℕ). get_or ys k (v d)) e ∙ get_or-map-range_with_len f o n k (o + k) (v d) h refl)
+
+-- numbers of one key that are given by their places
+pub of_one : {X : Type 0} (v : X → ℕ) (f : ℕ → ℕ → ℕ) (i o n : ℕ) (xs : List X) (js : List ℕ) → js ≡ range_with_len o n → map v xs ≡ zip2 f (replicate n i) js → map v xs ≡ map (f i) (range_with_len o n)
+of_one v f i o n xs js places e = e ∙ (ap (λ (ks : List ℕ). zip2 f (replicate n i) ks) places ∙ zip2_splat_left f i n (range_with_len o n) (length-range_with_len o n))

@@ -7,3 +7,4 @@ pub mod Leaves
 pub mod Numbers
 pub mod Own
 pub mod Signs
+pub mod Written
