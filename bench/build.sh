@@ -8,7 +8,7 @@ cpu=${3:-x86-64-v2}
 cd "$(dirname "$0")/../crates/$crate"
 # what was built before is built again, so that there is a verdict to show
 rm -f "out/$crate.stamp"
-said=$(rt run ${3:+--cpu "$3"} < /dev/null) || { printf '%s\n' "$said" >&2; exit 1; }
+said=$(rt run ${3:+--cpu "$3"} < /dev/null 2>&1) || { printf '%s\n' "$said" >&2; exit 1; }
 if ! printf '%s\n' "$said" | grep "^logic=proved .* cpu=$cpu "; then
     echo "$crate: no verdict logic=proved for $cpu" >&2
     exit 1

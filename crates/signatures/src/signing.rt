@@ -8,25 +8,8 @@ ghost use Rattle.signatures.specs.Views.{MadeIn};
 
 use crate::room::SignatureRoom;
 use hash::{Number, RowHasher};
-use keys::{OneTimeKey, Refusal, Signer, show_eight};
+use keys::{OneTimeKey, Refusal, Signer, eight_from, show_eight};
 use tree::Tree;
-
-// The eight places from one on.
-fn eight_from(first: u64) -> [u64; 8]
-    requires { first + 8 ≤ 2 ^ 64 }
-    ensures { result ≡ range_with_len first 8 }
-{
-    [
-        first,
-        first + 1,
-        first + 2,
-        first + 3,
-        first + 4,
-        first + 5,
-        first + 6,
-        first + 7,
-    ]
-}
 
 // Of each two numbers the one for its bit. Whatever numbers these are, of eight places from one on.
 fn chosen(unset: &[Number; 8], set: &[Number; 8], bits: &[bool; 8]) -> [Number; 8]
