@@ -1,5 +1,7 @@
-// Tests of signatures that are looked at where their numbers lie.
+// Tests of signatures that are looked at where their numbers lie, and of what is worked out eight at a time.
 #![tactic(auto)]
 
+#[cfg(test)]
+mod eights;
 #[cfg(test)]
 mod flat;
