@@ -40,10 +40,10 @@ fn absorb_one_by_one(hashers: &mut [RowSha256; 8], numbers: &[Number; 8]) {
     }
 }
 
-fn compare(rt: &impl Abort, eight: &[RowSha256; 8], alone: &[RowSha256; 8], what: Purpose) {
+fn compare(rt: &impl Abort, eight: &[RowSha256; 8], alone: &[RowSha256; 8]) {
     let found = RowSha256::finish_eight(eight);
     for (number, hasher) in found.iter().zip(alone) {
-        assert_eq!(rt; *number, hasher.finish(), "{what:?}");
+        assert!(rt; *number == hasher.finish());
     }
 }
 
@@ -51,7 +51,7 @@ fn compare_rows(rt: &impl Abort, random: &mut Random, purpose: Purpose, out_of_s
     let mut eight = hashers(purpose, out_of_step);
     let mut alone = eight;
     for _ in 0..12 {
-        compare(rt, &eight, &alone, purpose);
+        compare(rt, &eight, &alone);
         let numbers = eight_numbers(random);
         RowSha256::absorb_eight(&mut eight, &numbers);
         absorb_one_by_one(&mut alone, &numbers);
@@ -101,11 +101,7 @@ fn compare_blocks(rt: &impl Abort, random: &mut Random, same: usize) {
     let blocks = eight_blocks(random, same);
     let found = compress_eight(&states, &blocks);
     for i in 0..8 {
-        assert_eq!(rt;
-            found[i],
-            compress(states[i], &blocks[i]),
-            "block {i}, the first {same} the same"
-        );
+        assert!(rt; found[i] == compress(states[i], &blocks[i]));
     }
 }
 

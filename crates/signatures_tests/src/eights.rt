@@ -21,17 +21,9 @@ fn secret_numbers(rt: HostRuntime) {
     let shown = show_eight::<RowSha256>(&pairs.set);
     for i in 0..8 {
         let key = secrets.key(KEYS[i]);
-        assert_eq!(rt;
-            pairs.unset[i],
-            key.secret(PLACES[i], false),
-            "place {i}, not set"
-        );
-        assert_eq!(rt; pairs.set[i], key.secret(PLACES[i], true), "place {i}, set");
-        assert_eq!(rt;
-            shown[i],
-            show::<RowSha256>(&pairs.set[i]),
-            "place {i}, shown"
-        );
+        assert!(rt; pairs.unset[i] == key.secret(PLACES[i], false));
+        assert!(rt; pairs.set[i] == key.secret(PLACES[i], true));
+        assert!(rt; shown[i] == show::<RowSha256>(&pairs.set[i]));
     }
 }
 
@@ -50,8 +42,8 @@ fn compare_leaves(rt: &impl Abort, secrets: &Secrets<RowSha256>, bits: u64) {
     for i in 0..8 {
         let key = secrets.key(KEYS[i]);
         let alone = leaf(&key, bits);
-        assert_eq!(rt; leaves[i], alone, "key {i} of eight, {bits} bits");
-        assert_eq!(rt; key.leaf(bits), alone, "key {i}, {bits} bits");
+        assert!(rt; leaves[i] == alone);
+        assert!(rt; key.leaf(bits) == alone);
     }
 }
 
@@ -63,17 +55,16 @@ fn leaves(rt: HostRuntime) {
     }
 }
 
-// Signs the first bits of a row, whose every third bit is set, and compares what is given for each.
-fn compare_signed(rt: &impl Abort, levels: u64, key: u64, count: usize) -> Result<(), Refusal> {
-    let mut row = [false; 24];
-    for i in 0..24 {
-        row[i] = i % 3 == 0;
-    }
-    let bits = &row[..count.min(24)];
-    let signer = Signer {
-        levels,
-        seed: Number::from(17),
-    };
+// A row whose every third bit is set.
+const BITS: &'static [bool] = &[
+    true, false, false, true, false, false, true, false, false, true, false, false, true, false,
+    false, true, false, false, true, false, false, true, false, false,
+];
+
+// Signs a front of the row, and compares what is given for each bit.
+fn compare_signed(rt: &impl Abort, levels: u64, key: u64, bits: &[bool]) -> Result<(), Refusal> {
+    let seed = Number::from(17);
+    let signer = Signer { levels, seed };
     let mut room = SignatureRoom::new();
     sign_with::<RowSha256>(&signer, key, bits, &mut room)?;
     let secrets = secrets();
@@ -81,29 +72,22 @@ fn compare_signed(rt: &impl Abort, levels: u64, key: u64, count: usize) -> Resul
     let view = room.view();
     for ((i, part), other) in view.parts.iter().enumerate().zip(view.others) {
         let set = i % 3 == 0;
-        assert_eq!(rt; *part, own.secret(i as u64, set), "bit {i} of {count}");
-        assert_eq!(rt;
-            *other,
-            own.shown(i as u64, !set),
-            "the other of bit {i} of {count}"
-        );
+        assert!(rt; *part == own.secret(i as u64, set));
+        assert!(rt; *other == own.shown(i as u64, !set));
     }
     let tree = Tree {
         signer,
         bits: bits.len() as u64,
     };
     let root = tree.root::<RowSha256>()?;
-    assert!(rt;
-        verify::<RowSha256>(&root, levels, bits, view),
-        "{levels} levels, key {key}, {count} bits"
-    );
+    assert!(rt; verify::<RowSha256>(&root, levels, bits, view));
     Ok(())
 }
 
 #[test]
 fn signatures_of_any_number_of_bits(rt: HostRuntime) -> Result<(), Refusal> {
     for count in 1..=24 {
-        compare_signed(&rt, 1, 1, count)?;
+        compare_signed(&rt, 1, 1, &BITS[..count])?;
     }
     Ok(())
 }
@@ -112,7 +96,7 @@ fn signatures_of_any_number_of_bits(rt: HostRuntime) -> Result<(), Refusal> {
 fn trees_of_few_and_of_more_levels(rt: HostRuntime) -> Result<(), Refusal> {
     for levels in 0..6 {
         for key in 0..1_u64 << levels {
-            compare_signed(&rt, levels, key, 3)?;
+            compare_signed(&rt, levels, key, &BITS[..3])?;
         }
     }
     Ok(())
