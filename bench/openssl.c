@@ -124,7 +124,7 @@ static void node(int level, uint64_t index, uint8_t *digest) {
     join(left, right, digest);
 }
 
-// A signature by key 0 of all bits being set, and with a path of zeros, as the program hash_speed looks at.
+// The signature by key 0 of all bits being set, as the program hash_speed looks at.
 static uint8_t parts[BITS][NUMBER], others[BITS][NUMBER], path[LEVELS][NUMBER];
 
 static void climb(const uint8_t *leaf, uint8_t *value) {
@@ -158,6 +158,8 @@ static void looks(unsigned long long count) {
     memset(set, 1, sizeof set);
     set[1][BITS - 1] = 0;
     bits = BITS;
+    for (int level = 0; level < LEVELS; level++)
+        node(level, 1, path[level]);
     leaf(0, root);
     climb(root, root);
     unsigned long long taken = 0;

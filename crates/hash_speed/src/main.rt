@@ -28,10 +28,10 @@ fn answer(rt: &HostRuntime, line: &[u8]) -> io::Result<()> {
                 print!(rt; "{byte:02x}")?;
             }
         }
-        Some(Job::Looks(count)) => {
-            let (root, taken) = looks::<RowSha256>(count);
-            print!(rt; "{taken} {root}")?;
-        }
+        Some(Job::Looks(count)) => match looks::<RowSha256>(count) {
+            Ok((root, taken)) => print!(rt; "{taken} {root}")?,
+            Err(refusal) => print!(rt; "{refusal}")?,
+        },
         None => print!(rt; "?")?,
     }
     println!(rt; "")
