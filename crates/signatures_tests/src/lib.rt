@@ -5,3 +5,5 @@
 mod eights;
 #[cfg(test)]
 mod flat;
+#[cfg(test)]
+mod one_by_one;
