@@ -1,5 +1,5 @@
 -- What any request leaves of the count.
-use Rattle.std.proofs.Common.{◌≡◌, ℕ, ◌+◌, ◌≤◌, true, List, Some, None, Option, refl, sym, ◌∙◌, arith}
+use Rattle.std.proofs.Common.{◌≡◌, ℕ, ◌+◌, ◌≤◌, Bool, true, List, Some, None, Option, refl, sym, ◌∙◌, arith}
 use Rattle.std.proofs.lemmas.Bool.Decides.{nat_tests}
 use Rattle.keys.specs.declared.refusal.Refusal.{Refusal}
 use Rattle.counter.specs.Answers.{unrefused, unless_refused}
@@ -31,6 +31,5 @@ counts_by None l w m f =
 asked_counts : (o : Option Refusal) (l w : ℕ) (m : List ℕ) (d : Done) (ws ws₁ : List Write) (m₁ : List ℕ) → (None ≡ o → sound m ≡ true) → Asked o l m d ws ws₁ m₁ w → Counts m d m₁
 asked_counts o l w m d ws ws₁ m₁ f a = rw (a.answer, a.held) (counts_by o l w m f)
 
-pub counts : (k : Option ℕ) (o : Option Refusal) (l : ℕ) (m : List ℕ) (d : Done) (ws ws₁ : List Write) (m₁ : List ℕ) → (None ≡ o → sound m ≡ true) → ForPower k (Asked o l m d ws ws₁ m₁) → Counts m d m₁
-counts (Some w) o l m d ws ws₁ m₁ f a = asked_counts o l w m d ws ws₁ m₁ f a
-counts None o l m d ws ws₁ m₁ f a = asked_counts o l a.0 m d ws ws₁ m₁ f a.1
+pub counts : (sure : Bool) (k : ℕ) (o : Option Refusal) (l : ℕ) (m : List ℕ) (d : Done) (ws ws₁ : List Write) (m₁ : List ℕ) → (None ≡ o → sound m ≡ true) → ForPower sure k (Asked o l m d ws ws₁ m₁) → Counts m d m₁
+counts sure k o l m d ws ws₁ m₁ f a = asked_counts o l a.0 m d ws ws₁ m₁ f a.3

@@ -3,7 +3,7 @@ use Rattle.std.proofs.Common.{◌≡◌, ℕ, zero, suc, ◌+◌, ◌-◌, ◌*�
 use Rattle.std.proofs.lemmas.Bool.Decides.{nat_tests}
 use Rattle.std.proofs.lemmas.List.{append-nil, take_all}
 use Rattle.counter.specs.Cells.{left_by, made_if}
-use Rattle.counter.specs.Reserving.{Written}
+use Rattle.counter.specs.Reserving.{ForPower, Written}
 use Rattle.counter.specs.Store.{check, written, next, reserving, sound}
 use Rattle.counter.specs.declared.write.Write.{Write}
 
@@ -15,8 +15,8 @@ no_power : (w : ℕ) → false ≡ ltb 0 w → w ≡ 0
 no_power w e = grind (arith, nat_tests)
 
 -- no write was made
-pub none_written : (m : List ℕ) (ws : List Write) (w : ℕ) → false ≡ ltb 0 w → Written m false ws ws m w
-none_written m ws w e = rw (no_power w e) (record { both = refl; writes = sym (append-nil ws); held = refl })
+pub none_written : (m : List ℕ) (ws : List Write) (sure : Bool) (n : ℕ) → (sure ≡ true → false ≡ ltb 0 n) → ForPower sure n (Written m false ws ws m)
+none_written m ws sure n e = (0, omega arith, λ s. sym (no_power n (e s)), record { both = refl; writes = sym (append-nil ws); held = refl })
 
 -- the count was written, and its check or not
 module _ (m : List ℕ) (ws : List Write) where
@@ -52,6 +52,9 @@ pub record Counted (m m₀ m₁ : List ℕ) (ws ws₁ : List Write) (p k : ℕ) 
   pub held : m₁ ≡ set m₀ (2 * p) (k + 1)
   pub writes : ws₁ ≡ ws ++ made_if true (2 * p) (k + 1)
 
+pub counted : (m m₀ m₁ : List ℕ) (ws ws₁ : List Write) (p k : ℕ) → sound m ≡ true → m₀ ≡ m → p ≡ written m → k ≡ next m → m₁ ≡ set m₀ (2 * p) (k + 1) → ws₁ ≡ ws ++ made_if true (2 * p) (k + 1) → Counted m m₀ m₁ ws ws₁ p k
+counted m m₀ m₁ ws ws₁ p k s read place key held writes = record { sound = s; read = read; place = place; key = key; held = held; writes = writes }
+
 pub check_fits : (m m₀ m₁ : List ℕ) (ws ws₁ : List Write) (p k : ℕ) → Counted m m₀ m₁ ws ws₁ p k → 2 * p + 1 < length m₁
 check_fits m m₀ m₁ ws ws₁ p k c = rw (c.held, length-set m₀ (2 * p) (k + 1), c.read, c.place) (fits m c.sound).1
 
@@ -63,6 +66,11 @@ module _ (m m₀ m₁ m₂ : List ℕ) (ws ws₁ ws₂ : List Write) (p k v : �
   pub checked : (ok : Bool) → m₂ ≡ left_by (last ok) m₁ → ws₂ ≡ ws₁ ++ last ok → (w : ℕ) → true ≡ ltb 0 w → ok ≡ ltb 0 (w - 1) → Written m₀ ok ws ws₂ m₂ w
   checked ok d f w l r = rw (f, d, c.writes, c.held, q, c.key, c.place, c.read) (one_written m ws ok w l r)
 
-  pub checked_somehow : (ok : Bool) → m₂ ≡ left_by (last ok) m₁ → ws₂ ≡ ws₁ ++ last ok → (w : ℕ) × Written m₀ ok ws ws₂ m₂ w
-  checked_somehow true d f = (2, checked true d f 2 refl refl)
-  checked_somehow false d f = (1, checked false d f 1 refl refl)
+  -- with power for n writes, of which n₁ are left behind the count
+  pub checked_for : (sure : Bool) (n n₁ : ℕ) (ok : Bool) → m₂ ≡ left_by (last ok) m₁ → ws₂ ≡ ws₁ ++ last ok → 0 < n → n₁ ≡ n - 1 → (ok ≡ true → 0 < n₁) → (sure ≡ true → ok ≡ ltb 0 n₁) →
+      ForPower sure n (Written m₀ ok ws ws₂ m₂)
+  checked_for sure n n₁ true d f p q few made =
+      let more = few refl in
+      (n, omega arith, λ _. refl, checked true d f n (grind (arith, nat_tests)) (grind (arith, nat_tests)))
+  checked_for sure n n₁ false d f p q few made =
+      (1, omega (arith, p), λ e. let none = no_power n₁ (made e) in omega (arith, none, p, q), checked false d f 1 refl refl)

@@ -1,16 +1,16 @@
--- What reserving does to cells, whichever they are: with power for some number of writes, the answer, the writes that were added, in their order, and what the cells hold. Assumes nothing: these are definitions.
-use Rattle.std.specs.Prelude.{◌≡◌, ℕ, ◌+◌, ◌≤◌, Bool, true, List, [], ◌++◌, take, Some, None, Option, nat_le}
+-- What reserving does to cells, whichever they are: with power for some number of writes, the answer, the writes that were added, in their order, and what the cells hold; and what is found of them afterwards. Assumes nothing: these are definitions.
+use Rattle.std.specs.Prelude.{◌≡◌, ℕ, ◌+◌, ◌≤◌, Bool, true, List, [], ◌++◌, take, Option, nat_le}
 use Rattle.keys.specs.declared.refusal.Refusal.{Refusal}
 use Rattle.counter.specs.Answers.{unrefused, unless_refused}
+use Rattle.counter.specs.Cells.{DiskState, Found}
 use Rattle.counter.specs.Store.{next, reserving, reserved, sound, step, made}
 use Rattle.counter.specs.declared.answer.Done.{Done}
 use Rattle.counter.specs.declared.answer.Done.TheVariants.{Key}
 use Rattle.counter.specs.declared.write.Write.{Write}
 
--- P holds with power for the number of writes that is known, or else for some number
-abbrev pub ForPower : Option ℕ → (ℕ → Type 0) → Type 0
-ForPower (Some w) P = P w
-ForPower None P = (w : ℕ) × P w
+-- P holds with power for w writes: n, or fewer where something else may fail
+abbrev pub ForPower : (sure : Bool) → (n : ℕ) → (ℕ → Type 0) → Type 0
+ForPower sure n P = (w : ℕ) × (w ≤ n) × (sure ≡ true → w ≡ n) × P w
 
 -- both numbers of a key's slot were written, or a front part of them
 pub record Written (m : List ℕ) (ok : Bool) (before after : List Write) (m₁ : List ℕ) (w : ℕ) : Type 0 where
@@ -32,3 +32,15 @@ KeepsCount m m₁ = sound m ≡ true → (sound m₁ ≡ true) × (next m ≤ ne
 pub record Counts (m : List ℕ) (d : Done) (m₁ : List ℕ) : Type 0 where
   pub keeps : KeepsCount m m₁
   pub given : (i : ℕ) → d ≡ Key i → (i ≡ next m) × (next m₁ ≡ i + 1)
+
+-- what whoever reads the cells anew may find in the place of m: where m is sound it is sound too, and its next key is no smaller and at most one more
+abbrev pub Follows : (m found : List ℕ) → Type 0
+Follows m m₁ = sound m ≡ true → (sound m₁ ≡ true) × (next m ≤ next m₁) × (next m₁ ≤ next m + 1)
+
+-- the disk below cells that hold m holds m, and whatever is found of it follows
+abbrev pub InStep : DiskState → List ℕ → Type 0
+InStep d m = (d.settled ≡ m) × ((m₁ : List ℕ) → Found d m₁ → Follows m m₁)
+
+-- a key is given only where nothing waits to be acknowledged
+abbrev pub Acknowledged : Done → (before after : DiskState) → Type 0
+Acknowledged r d d₁ = (i : ℕ) → r ≡ Key i → (d.pending ≡ []) × (d₁.pending ≡ [])

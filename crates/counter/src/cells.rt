@@ -1,7 +1,7 @@
 // A store's cells, as the device that holds them: each number is written at once, and power may fail before a write.
-ghost use Rattle.std.specs.Prelude.{◌≡◌, ℕ, ◌<◌, List, ◌++◌, length, is_ok, Option, Some, nat_lt, OnOk};
+ghost use Rattle.std.specs.Prelude.{◌≡◌, ℕ, ◌<◌, Bool, true, List, ◌++◌, length, is_ok, nat_lt, OnOk};
 ghost use Rattle.std.specs.Borrow.{GName};
-ghost use Rattle.counter.specs.Cells.{left_by, made_if, lasts_behind};
+ghost use Rattle.counter.specs.Cells.{left_by, made_if, lasts_behind, DiskState, Kept};
 ghost use Rattle.counter.specs.declared.write.Write.{Write};
 
 // A number was not written: power failed before it, or there is no such cell.
@@ -9,17 +9,23 @@ ghost use Rattle.counter.specs.declared.write.Write.{Write};
 pub struct NotWritten;
 
 pub trait Cells {
+    // Whether nothing but power keeps a write from being made.
+    ghost sure: { Bool };
+
     // The numbers that the cells hold.
     ghost held: { Self → List ℕ };
 
     // The writes that were made to them, in order.
     ghost writes: { Self → List Write };
 
-    // For how many more writes power lasts, where that is known.
-    ghost lasts: { Self → Option ℕ };
+    // For how many more writes power lasts, at most.
+    ghost lasts: { Self → ℕ };
 
-    // Which cells they are: of lent ones the name that proofs give to the loan, which must stay for the lender to see the writes.
-    ghost loan: { Self → GName };
+    // What whoever reads the cells anew, once this device is gone, may find: they lie on a disk, or in memory that lasts.
+    ghost disk: { Self → DiskState };
+
+    // Which cells they are: of lent ones the names that proofs give to the loans, which must stay for the lender to see the writes.
+    ghost loans: { Self → List GName };
 
     fn numbers(&self) -> &[u32]
         ensures { result.now ≡ held self.now };
@@ -29,7 +35,9 @@ pub trait Cells {
         ensures held { held self.new ≡ left_by (made_if (is_ok result) place value) (held self.old) }
         ensures there { OnOk result (place < length (held self.old)) }
         ensures writes { writes self.new ≡ writes self.old ++ made_if (is_ok result) place value }
-        ensures made { (n : ℕ) → lasts self.old ≡ Some n → place < length (held self.old) → is_ok result ≡ nat_lt 0 n }
+        ensures made { sure ≡ true → place < length (held self.old) → is_ok result ≡ nat_lt 0 (lasts self.old) }
+        ensures few { OnOk result (0 < lasts self.old) }
         ensures lasts { lasts self.new ≡ lasts_behind (is_ok result) (lasts self.old) }
-        ensures loan { loan self.new ≡ loan self.old };
+        ensures disk { Kept (is_ok result) place value (disk self.old) (disk self.new) }
+        ensures loans { loans self.new ≡ loans self.old };
 }

@@ -1,5 +1,6 @@
 // A lent slice as a store's cells, with power for a number of writes.
-ghost use Rattle.std.specs.Prelude.{◌≡◌, [], Some};
+ghost use Rattle.std.specs.Prelude.{◌≡◌, ◌<◌, true, [], ◌∷◌, length, is_ok, nat_lt, ◌&&◌};
+ghost use Rattle.counter.specs.Cells.{still};
 
 use crate::cells::{Cells, NotWritten};
 use crate::history::History;
@@ -26,16 +27,27 @@ impl<'a> LentCells<'a> {
             history: History::new(),
         }
     }
+
+    // Whether a number would be written: there is such a cell, and power lasts.
+    pub fn takes(&self, place: usize) -> bool
+        ensures { result ≡ (nat_lt 0 self.now.lasts && nat_lt place (length self.now.cells.now)) }
+    {
+        self.lasts > 0 && place < self.cells.len()
+    }
 }
 
 impl<'a> Cells for LentCells<'a> {
+    ghost sure = { true };
+
     ghost held = { λ c. c.cells.now };
 
     ghost writes = { λ c. c.history.writes };
 
-    ghost lasts = { λ c. Some c.lasts };
+    ghost lasts = { λ c. c.lasts };
 
-    ghost loan = { λ c. c.cells.ghost_name };
+    ghost disk = { λ c. still c.cells.now };
+
+    ghost loans = { λ c. c.cells.ghost_name ∷ [] };
 
     fn numbers(&self) -> &[u32] {
         self.cells

@@ -2,7 +2,7 @@
 ghost use Rattle.std.specs.Prelude.{◌≡◌, ⊤};
 ghost use Rattle.keys.specs.Refusals.{Unless};
 ghost use Rattle.counter.specs.Answers.{reserve_refusal, reserve_answer, reserve_stored};
-ghost use Rattle.counter.specs.Reserving.{ForPower, Asked, Counts};
+ghost use Rattle.counter.specs.Reserving.{ForPower, Asked, Counts, InStep, Acknowledged};
 ghost use Rattle.counter.specs.Store.{counting};
 
 use crate::answer::Done;
@@ -32,9 +32,11 @@ pub fn refuse_store(levels: u64, numbers: &[u32]) -> Result<(), Refusal>
 
 // Reserves the next key of a tree of so many levels in a store's cells.
 pub fn reserve_in<C: Cells>(levels: u64, cells: &mut C) -> Done
-    ensures asked { ForPower (C.lasts cells.old) (Asked (reserve_refusal levels (C.held cells.old)) levels (C.held cells.old) result (C.writes cells.old) (C.writes cells.new) (C.held cells.new)) }
+    ensures asked { ForPower C.sure (C.lasts cells.old) (Asked (reserve_refusal levels (C.held cells.old)) levels (C.held cells.old) result (C.writes cells.old) (C.writes cells.new) (C.held cells.new)) }
     ensures counts { Counts (C.held cells.old) result (C.held cells.new) }
-    ensures loan { C.loan cells.new ≡ C.loan cells.old }
+    ensures in_step { InStep (C.disk cells.old) (C.held cells.old) → InStep (C.disk cells.new) (C.held cells.new) }
+    ensures acknowledged { Acknowledged result (C.disk cells.old) (C.disk cells.new) }
+    ensures loans { C.loans cells.new ≡ C.loans cells.old }
 {
     // No `?`, since here a refusal is one of the answers.
     let store = match admit(levels, cells.numbers()) {

@@ -1,8 +1,8 @@
 // The store: two slots of a count and its check, one of which is written while the other counts.
-ghost use Rattle.std.specs.Prelude.{◌≡◌, ◌-◌, ◌<◌, true, ⊤, is_ok};
+ghost use Rattle.std.specs.Prelude.{◌≡◌, ◌-◌, ◌<◌, [], true, ⊤, is_ok, OnOk};
 ghost use Rattle.keys.specs.Refusals.{Unless};
 ghost use Rattle.counter.specs.Answers.{store_refusal, key_refusal};
-ghost use Rattle.counter.specs.Reserving.{ForPower, Written};
+ghost use Rattle.counter.specs.Reserving.{ForPower, Written, InStep};
 ghost use Rattle.counter.specs.Store.{check, slot_ok, written, next, sound};
 
 use crate::cells::{Cells, NotWritten};
@@ -98,8 +98,10 @@ impl Store {
     pub(crate) fn reserve<C: Cells>(&self, cells: &mut C) -> Result<(), NotWritten>
         requires read { C.held cells.old ≡ self.now.cells }
         requires small { next self.now.cells < 4294967295 }
-        ensures written { ForPower (C.lasts cells.old) (Written (C.held cells.old) (is_ok result) (C.writes cells.old) (C.writes cells.new) (C.held cells.new)) }
-        ensures loan { C.loan cells.new ≡ C.loan cells.old }
+        ensures written { ForPower C.sure (C.lasts cells.old) (Written (C.held cells.old) (is_ok result) (C.writes cells.old) (C.writes cells.new) (C.held cells.new)) }
+        ensures in_step { InStep (C.disk cells.old) (C.held cells.old) → InStep (C.disk cells.new) (C.held cells.new) }
+        ensures acknowledged { OnOk result (((C.disk cells.old).pending ≡ []) × ((C.disk cells.new).pending ≡ [])) }
+        ensures loans { C.loans cells.new ≡ C.loans cells.old }
     {
         let count = self.next_key() + 1;
         let place = 2 * self.slot_to_write();

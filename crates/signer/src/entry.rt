@@ -6,7 +6,7 @@ ghost use Rattle.tree.specs.Tree.{node};
 ghost use Rattle.signatures.specs.Rows.{LocatedCollision};
 ghost use Rattle.signatures.specs.Signatures.{accepted};
 ghost use Rattle.signatures.specs.Views.{viewed};
-ghost use Rattle.counter.specs.Reserving.{ForPower, Asked, Counts};
+ghost use Rattle.counter.specs.Reserving.{ForPower, Asked, Counts, InStep, Acknowledged};
 ghost use Rattle.signer.specs.Answers.{refusal, answer, stored, RoomSays, GivenAccepted};
 ghost use Rattle.signer.specs.Promises.{Own};
 
@@ -31,11 +31,13 @@ pub fn sign_in<H: RowHasher, C: Cells>(
     cells: &mut C,
     room: &mut SignatureRoom,
 ) -> Done
-    ensures asked { ForPower (C.lasts cells.old) (Asked (refusal signer.now.levels (C.held cells.old) (length bits.now)) signer.now.levels (C.held cells.old) result (C.writes cells.old) (C.writes cells.new) (C.held cells.new)) }
+    ensures asked { ForPower C.sure (C.lasts cells.old) (Asked (refusal signer.now.levels (C.held cells.old) (length bits.now)) signer.now.levels (C.held cells.old) result (C.writes cells.old) (C.writes cells.new) (C.held cells.new)) }
     ensures counts { Counts (C.held cells.old) result (C.held cells.new) }
     ensures room { RoomSays H.mix (value_of signer.now.seed) signer.now.levels bits.now result room.old room.new }
     ensures accepted { GivenAccepted H.mix (value_of signer.now.seed) signer.now.levels bits.now result room.new }
-    ensures loan { C.loan cells.new ≡ C.loan cells.old }
+    ensures in_step { InStep (C.disk cells.old) (C.held cells.old) → InStep (C.disk cells.new) (C.held cells.new) }
+    ensures acknowledged { Acknowledged result (C.disk cells.old) (C.disk cells.new) }
+    ensures loans { C.loans cells.new ≡ C.loans cells.old }
 {
     // No `?`, since here a refusal is one of the answers.
     if let Err(refusal) = refuse(signer.levels, cells.numbers(), bits.len() as u64) {
