@@ -1,5 +1,5 @@
 -- What a command is answered, and what it leaves of the session. For every hash h, and the last for SHA-256. Assumes nothing: these are definitions.
-use Rattle.std.specs.Prelude.{◌≡◌, ℕ, Bool, true, ◌⊎◌, List, Some, None, Ok, Err, vec_items, string_bytes, codes, Option, Result, String, MatchOption}
+use Rattle.std.specs.Prelude.{◌≡◌, ℕ, ◌≤◌, Bool, true, false, ◌⊎◌, List, Some, None, Ok, Err, vec_items, string_bytes, codes, Option, Result, String, MatchOption}
 use Rattle.std.specs.Option.{unwrap_or}
 use Rattle.hash.specs.Hex.{hex}
 use Rattle.hash.specs.Mix.{Mix}
@@ -15,7 +15,8 @@ use Rattle.signatures.specs.Signatures.{signed, accepted}
 use Rattle.signer.specs.Answers.{answer, stored}
 use Rattle.signer.specs.Promises.{Own}
 use Rattle.digests.specs.Digests.{LocatedStrings}
-use Rattle.counter.specs.Reserving.{KeepsCount}
+use Rattle.counter.specs.Cells.{DiskState}
+use Rattle.counter.specs.Reserving.{KeepsCount, InStep}
 use Rattle.counter.specs.Store.{next, counting}
 use Rattle.counter.specs.declared.answer.Done.TheVariants.{Key}
 use Rattle.std.specs.declared.alloc.Global.{Global}
@@ -44,6 +45,11 @@ Unchanged s s₁ = Has s₁ (vec_items s.store) s.tree s.power
 abbrev pub AfterSign : (before after : Session) → Type 0
 AfterSign s s₁ = Has s₁ (stored s.tree.signer.levels (vec_items s.store) s.tree.bits (power_of s.power)) s.tree None
 
+-- Where a store is kept on a disk, a `sign` may find power for fewer writes than was said, since a write that fails is a cut. So a command in the session s does and answers what it does in memory in a session r, which is s, or s with power for fewer writes
+abbrev pub FewerWrites : (in_memory : Bool) → Command → (s r : Session) → Type 0
+FewerWrites false (Sign t) s r = (r ≡ s) ⊎ ((w : ℕ) × (w ≤ power_of s.power) × (r ≡ record s { power = Some w }))
+FewerWrites b c s r = r ≡ s
+
 -- what a command leaves of a session: for how many writes power lasts is changed by `power` and `sign` alone
 abbrev pub Executed : Session → Command → Session → Type 0
 Executed s (Store v) s₁ = Has s₁ (vec_items v) s.tree s.power
@@ -61,6 +67,12 @@ Failed s c s₁ = Unchanged s s₁
 abbrev pub Counted : Session → Command → Session → Type 0
 Counted s (Store v) s₁ = Unit {0}
 Counted s c s₁ = KeepsCount (vec_items s.store) (vec_items s₁.store)
+
+-- and it leaves the disk on which a store is kept in step with it, if it was: the disk holds what the store holds, and what may be found of it by whoever reads it anew is sound, with a next key that is no smaller
+abbrev pub StaysInStep : (in_memory : Bool) → Command → DiskState → Session → DiskState → Session → Type 0
+StaysInStep true c d s d₁ s₁ = Unit {0}
+StaysInStep false (Store v) d s d₁ s₁ = Unit {0}
+StaysInStep false c d s d₁ s₁ = InStep d (vec_items s.store) → InStep d₁ (vec_items s₁.store)
 
 -- the bits of a text that the session's keys sign
 abbrev pub bits_asked : Mix → Session → (text : List ℕ) → List Bool

@@ -1,5 +1,5 @@
-// What the lines of the program ask, on values: the store, the signer and its bits, for how many writes power lasts, and what is signed and looked at with them.
-ghost use Rattle.std.specs.Prelude.{◌≡◌, ℕ, true, ◌⊎◌, [], None, IfOk, string_bytes, Result, MatchResult};
+// What the lines of the program ask, on values: the store, which a keeper may keep beyond the process, the signer and its bits, for how many writes power lasts, and what is signed and looked at with them.
+ghost use Rattle.std.specs.Prelude.{◌≡◌, ℕ, true, false, ◌⊎◌, None, IfOk, string_bytes, Result, MatchResult};
 ghost use Rattle.hash.specs.Value.{value_of};
 ghost use Rattle.sha256.specs.Rows.{row_hash};
 ghost use Rattle.keys.specs.Refusals.{tree_refusal, Unless};
@@ -8,20 +8,21 @@ ghost use Rattle.tree.specs.Tree.{node};
 ghost use Rattle.signatures.specs.Rows.{LocatedCollision};
 ghost use Rattle.signatures.specs.Signatures.{blank, accepted};
 ghost use Rattle.signatures.specs.Views.{viewed, held};
-ghost use Rattle.counter.specs.Reserving.{Counts};
+ghost use Rattle.counter.specs.Reserving.{Counts, ForPower, InStep};
 ghost use Rattle.signer.specs.Answers.{answer, stored, RoomSays, GivenAccepted};
 ghost use Rattle.signer.specs.Promises.{Own};
 ghost use Rattle.texts.specs.SignatureLines.{SignatureRead};
 ghost use Rattle.texts.specs.declared.signature.ReadSignature.{ReadSignature};
-ghost use Rattle.sessions.specs.Sessions.{bits_asked, power_of, look_answer, Executed, Failed, Counted, Answered, Promised, PromisedStrings};
+ghost use Rattle.sessions.specs.Sessions.{bits_asked, power_of, look_answer, FewerWrites, Executed, Failed, Counted, StaysInStep, Answered, Promised, PromisedStrings};
 
 use crate::reply::{look_text, root_text, sign_text, slot_text, state_text};
 use counter::{Done, slot};
+use durable::{Keeper, KeptCells};
 use hash::{Number, RowHasher};
 use keys::{Refusal, Signer};
 use sha256::RowSha256;
 use signatures::{SignatureRoom, SignatureView};
-use signer::{look, refuse, sign};
+use signer::{look, refuse, sign_in};
 use std::alloc::{AllocError, Global};
 use texts::{Command, ReadError, SignatureLines, text_bits};
 use tree::Tree;
@@ -37,9 +38,9 @@ pub struct Session {
 }
 
 impl Session {
-    // No store, no levels, no bits, and the seed 0; power lasts.
-    pub fn new(heap: Global) -> Session
-        ensures store { result.store.items ≡ [] }
+    // With that store; no levels, no bits, and the seed 0; power lasts.
+    pub fn new(store: Vec<u32>) -> Session
+        ensures store { result.store.items ≡ store.items }
         ensures signer { (result.tree.signer.levels ≡ 0) × (result.tree.bits ≡ 0) × (value_of result.tree.signer.seed ≡ 0) }
         ensures power { result.power ≡ None }
         ensures room { held result.room ≡ blank }
@@ -52,7 +53,7 @@ impl Session {
                 },
                 bits: 0,
             },
-            store: Vec::new(heap),
+            store,
             power: None,
             room: SignatureRoom::new(),
         }
@@ -65,14 +66,19 @@ impl Session {
         self.tree.root::<H>()
     }
 
-    // Signs a text, with power for as many writes as was said; afterwards power lasts, whatever is answered. Where memory fails nothing is changed.
-    pub fn sign<H: RowHasher>(&mut self, heap: Global, text: &[u8]) -> Result<Done, AllocError>
-        ensures answer { IfOk result (λ d. d ≡ answer self.old.tree.signer.levels self.old.store.items self.old.tree.bits (power_of self.old.power)) }
-        ensures store { MatchResult result (λ _. self.new.store.items ≡ stored self.old.tree.signer.levels self.old.store.items self.old.tree.bits (power_of self.old.power)) (λ _. self.new.store.items ≡ self.old.store.items) }
+    // Signs a text, with power for as many writes as was said, or for fewer where what keeps the store may fail; afterwards power lasts, whatever is answered. Where memory fails nothing is changed.
+    pub fn sign<H: RowHasher, K: Keeper>(
+        &mut self,
+        heap: Global,
+        text: &[u8],
+        keeper: &mut K,
+    ) -> Result<Done, AllocError>
+        ensures done { MatchResult result (λ d. ForPower K.IN_MEMORY (power_of self.old.power) (λ w. (d ≡ answer self.old.tree.signer.levels self.old.store.items self.old.tree.bits w) × (self.new.store.items ≡ stored self.old.tree.signer.levels self.old.store.items self.old.tree.bits w))) (λ _. self.new.store.items ≡ self.old.store.items) }
         ensures counts { IfOk result (λ d. Counts self.old.store.items d self.new.store.items) }
         ensures room { MatchResult result (λ d. RoomSays H.mix (value_of self.old.tree.signer.seed) self.old.tree.signer.levels (bits_asked H.mix self.old text.now) d self.old.room self.new.room) (λ _. self.new.room ≡ self.old.room) }
         ensures accepted { IfOk result (λ d. GivenAccepted H.mix (value_of self.old.tree.signer.seed) self.old.tree.signer.levels (bits_asked H.mix self.old text.now) d self.new.room) }
         ensures power { MatchResult result (λ _. self.new.power ≡ None) (λ _. self.new.power ≡ self.old.power) }
+        ensures in_step { K.IN_MEMORY ≡ false → InStep (K.state keeper.old) self.old.store.items → InStep (K.state keeper.new) self.new.store.items }
         ensures same { self.new.tree ≡ self.old.tree }
     {
         // No `?`, since here a refusal is one of the answers.
@@ -83,13 +89,8 @@ impl Session {
         let bits = text_bits::<H>(heap, text, self.tree.bits)?;
         let lasts = self.power.unwrap_or(u64::MAX);
         self.power = None;
-        Ok(sign::<H>(
-            &self.tree.signer,
-            &bits,
-            &mut self.store,
-            lasts,
-            &mut self.room,
-        ))
+        let mut cells = KeptCells::new(&mut self.store, lasts, keeper);
+        Ok(sign_in::<H, KeptCells<'_, K>>(&self.tree.signer, &bits, &mut cells, &mut self.room))
     }
 
     // Looks at a signature of a text. If it is accepted, then of every signer whose root this is it is that signer's own, or two rows are shown that hash to the same.
@@ -127,32 +128,32 @@ impl Session {
         }
     }
 
-    // Does what a command asks, and gives the text that answers it, if one does. The lines are those behind the command, which only a `look` takes. The hash is SHA-256.
-    pub fn execute(
+    // Does what a command asks, and gives the text that answers it, if one does. The lines are those behind the command, which only a `look` takes; the keeper keeps what a `sign` writes. The hash is SHA-256.
+    pub fn execute<K: Keeper>(
         &mut self,
         heap: Global,
         command: Command,
         lines: &SignatureLines<'_>,
+        keeper: &mut K,
     ) -> Result<Option<String>, AllocError>
-        ensures session { MatchResult result (λ _. Executed self.old command self.new) (λ _. Failed self.old command self.new) }
+        ensures done { (r : Session) × FewerWrites K.IN_MEMORY command self.old r × MatchResult result (λ o. Executed r command self.new × Answered row_hash r command lines.now o × PromisedStrings r command lines.now o) (λ _. Failed r command self.new) }
         ensures counts { Counted self.old command self.new }
-        ensures text { IfOk result (λ o. Answered row_hash self.old command lines.now o) }
-        ensures promised { IfOk result (λ o. PromisedStrings self.old command lines.now o) }
+        ensures in_step { StaysInStep K.IN_MEMORY command (K.state keeper.old) self.old (K.state keeper.new) self.new }
     {
-        self.execute_with::<RowSha256>(heap, command, lines)
+        self.execute_with::<RowSha256, K>(heap, command, lines, keeper)
     }
 
     // The same with any hash.
-    pub fn execute_with<H: RowHasher>(
+    pub fn execute_with<H: RowHasher, K: Keeper>(
         &mut self,
         heap: Global,
         command: Command,
         lines: &SignatureLines<'_>,
+        keeper: &mut K,
     ) -> Result<Option<String>, AllocError>
-        ensures session { MatchResult result (λ _. Executed self.old command self.new) (λ _. Failed self.old command self.new) }
+        ensures done { (r : Session) × FewerWrites K.IN_MEMORY command self.old r × MatchResult result (λ o. Executed r command self.new × Answered H.mix r command lines.now o × Promised H.mix r command lines.now o) (λ _. Failed r command self.new) }
         ensures counts { Counted self.old command self.new }
-        ensures text { IfOk result (λ o. Answered H.mix self.old command lines.now o) }
-        ensures promised { IfOk result (λ o. Promised H.mix self.old command lines.now o) }
+        ensures in_step { StaysInStep K.IN_MEMORY command (K.state keeper.old) self.old (K.state keeper.new) self.new }
     {
         match command {
             Command::Store(store) => {
@@ -165,7 +166,7 @@ impl Session {
             }
             Command::Root => Ok(Some(root_text(heap, self.root::<H>())?)),
             Command::Sign(text) => {
-                let done = self.sign::<H>(heap, &text)?;
+                let done = self.sign::<H, K>(heap, &text, keeper)?;
                 Ok(Some(sign_text(heap, done, &self.room)?))
             }
             Command::Look(root, text) => { Ok(Some(self.look_at::<H>(heap, &root, &text, lines)?)) }
