@@ -1,11 +1,16 @@
 -- What may be found of cells that lie on a disk, while a key is reserved in them.
-use Rattle.std.proofs.Common.{◌≡◌, ℕ, ◌+◌, ◌*◌, Bool, true, false, inl, inr, List, [], ◌∷◌, set, refl, sym, ap, ◌∙◌, subst, arith}
+use Rattle.std.proofs.Common.{◌≡◌, ℕ, ◌+◌, ◌*◌, Bool, true, false, inl, inr, List, [], ◌∷◌, ◌++◌, set, refl, sym, ap, ◌∙◌, subst, arith}
 use Rattle.counter.specs.Cells.{left_by, made_if, DiskState, still, Kept}
 use Rattle.counter.specs.Reserving.{Follows, InStep}
 use Rattle.counter.specs.Store.{check, written, next, sound}
 use Rattle.counter.specs.declared.write.Write.{Write}
 use Rattle.counter.proofs.Counting.{kept as kept_sound}
 use Rattle.counter.proofs.Writes.{Counted}
+
+-- one write more, behind others
+pub left_by_more : (ws : List Write) (m : List ℕ) (p v : ℕ) → left_by (ws ++ (record { place = p; value = v } ∷ [])) m ≡ set (left_by ws m) p v
+left_by_more [] m p v = refl
+left_by_more (w ∷ ws) m p v = left_by_more ws (set m w.place w.value) p v
 
 follows_itself : (m : List ℕ) → Follows m m
 follows_itself m s = (s, omega arith, omega arith)

@@ -56,6 +56,12 @@ impl<D: Disk + Drop> OnDisk<D> {
             failed: false,
         })
     }
+
+    pub fn disk(&self) -> &D
+        ensures { result.now ≡ self.now.disk }
+    {
+        &self.disk
+    }
 }
 
 impl<D: Disk + Drop> Keeper for OnDisk<D> {
