@@ -1,5 +1,5 @@
 // A file of sixteen bytes as the disk that a store lies on.
-ghost use Rattle.std.specs.Prelude.{◌≡◌, [], IfOk};
+ghost use Rattle.std.specs.Prelude.{◌≡◌, [], is_ok, IfOk};
 ghost use Rattle.counter.specs.Cells.{left_by, still};
 ghost use Rattle.store_files.specs.Format.{file_bytes};
 
@@ -8,6 +8,7 @@ use crate::problem::Problem;
 use counter::{History, NotWritten, Write};
 use durable::Disk;
 use std::fs::OpenFile;
+use std::io;
 use std::os::unix::fs::FileExt;
 
 // An open file that holds a store.
@@ -19,6 +20,8 @@ pub struct StoreFile<F: FileExt + OpenFile + Drop> {
     latest: [u32; 4],
     // the writes that were asked for since the file was last made durable
     waits: History,
+    // why the file failed, where it has
+    failure: Option<io::Error>,
     ghost waited: { latest ≡ left_by waits.writes settled },
 }
 
@@ -39,6 +42,7 @@ impl<F: FileExt + OpenFile + Drop> StoreFile<F> {
             settled: numbers,
             latest: numbers,
             waits: History::new(),
+            failure: None,
         })
     }
 
@@ -47,6 +51,27 @@ impl<F: FileExt + OpenFile + Drop> StoreFile<F> {
         ensures { result.now ≡ self.now.settled }
     {
         &self.settled
+    }
+
+    // Why the file failed, where it has.
+    pub fn failure(&self) -> Option<io::Error>
+        ensures { result ≡ self.now.failure }
+    {
+        self.failure
+    }
+
+    // Keeps why a call of the file failed.
+    fn note(&mut self, called: io::Result<()>) -> Result<(), NotWritten>
+        ensures answer { is_ok result ≡ is_ok called }
+        ensures same { (self.new.settled ≡ self.old.settled) × (self.new.latest ≡ self.old.latest) × (self.new.waits ≡ self.old.waits) }
+    {
+        match called {
+            Ok(()) => Ok(()),
+            Err(error) => {
+                self.failure = Some(error);
+                Err(NotWritten)
+            }
+        }
     }
 }
 
@@ -61,15 +86,13 @@ impl<F: FileExt + OpenFile + Drop> Disk for StoreFile<F> {
         self.latest[place] = value;
         self.waits = self.waits.then(&Write { place, value });
         let cell = cell_bytes(place, value);
-        self.file
-            .write_all_at(&cell.bytes, cell.at)
-            .or(Err(NotWritten))
+        let written = self.file.write_all_at(&cell.bytes, cell.at);
+        self.note(written)
     }
 
     fn sync(&mut self) -> Result<(), NotWritten> {
-        if self.file.sync_data().is_err() {
-            return Err(NotWritten);
-        }
+        let synced = self.file.sync_data();
+        self.note(synced)?;
         self.settled = self.latest;
         self.waits = History::new();
         Ok(())

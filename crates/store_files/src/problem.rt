@@ -1,8 +1,9 @@
 // Why a store's file is not opened or made.
 ghost use Rattle.std.specs.Prelude.{◌≡◌};
 ghost use Rattle.store_files.specs.Files.{problem_spelled, IsIo};
-ghost use Rattle.store_files.specs.declared.problem.Problem.TheVariants.{Io};
+ghost use Rattle.store_files.specs.declared.problem.Problem.TheVariants.{Io, NotDurable};
 
+use counter::NotWritten;
 use std::alloc::AllocError;
 use std::{fmt, io};
 
@@ -16,6 +17,8 @@ pub enum Problem {
     Length(u64),
     // A standard stream is closed, so that the file would be opened as that stream.
     StandardStream,
+    // The file was opened and could not be made durable as it is.
+    NotDurable,
     Io(io::Error),
 }
 
@@ -35,6 +38,14 @@ impl From<AllocError> for Problem {
     }
 }
 
+impl From<NotWritten> for Problem {
+    ghost from_gives = { λ _ p. p ≡ NotDurable };
+
+    fn from(_error: NotWritten) -> Problem {
+        Problem::NotDurable
+    }
+}
+
 impl fmt::Display for Problem {
     ghost output = { problem_spelled };
 
@@ -47,6 +58,7 @@ impl fmt::Display for Problem {
             Problem::Open => f.write_str("another run has the store, though its lock is gone"),
             Problem::Length(bytes) => write!(f, "a store has 16 bytes, and this file has {bytes}"),
             Problem::StandardStream => f.write_str("a standard stream is closed"),
+            Problem::NotDurable => f.write_str("the file cannot be made durable"),
             Problem::Io(error) => write!(f, "{error}"),
         }
     }

@@ -1,0 +1,8 @@
+// The command line of the program: which store it is asked for, and the run on it.
+#![tactic(auto)]
+
+mod arguments;
+mod help;
+
+pub use arguments::{Invocation, read_arguments};
+pub use help::HELP;
