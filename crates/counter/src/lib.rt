@@ -4,6 +4,7 @@
 mod answer;
 mod cells;
 mod history;
+mod keeper;
 mod lent;
 pub mod promises;
 mod reserving;
@@ -13,6 +14,7 @@ mod write;
 pub use answer::Done;
 pub use cells::{Cells, NotWritten};
 pub use history::History;
+pub use keeper::{InMemory, Keeper};
 pub use lent::LentCells;
 pub use reserving::{refuse_store, reserve, reserve_in, slot};
 pub use write::Write;

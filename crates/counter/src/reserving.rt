@@ -7,6 +7,7 @@ ghost use Rattle.counter.specs.Store.{counting};
 
 use crate::answer::Done;
 use crate::cells::Cells;
+use crate::keeper::InMemory;
 use crate::lent::LentCells;
 use crate::store::Store;
 use keys::{Refusal, Signer};
@@ -59,7 +60,7 @@ pub fn reserve(levels: u64, store: &mut [u32], lasts: u64) -> Done
     ensures store { store.new ≡ reserve_stored levels store.old lasts }
     ensures counts { Counts store.old result store.new }
 {
-    reserve_in(levels, &mut LentCells::new(store, lasts))
+    reserve_in(levels, &mut LentCells::new(store, lasts, &mut InMemory))
 }
 
 // The slot that counts, as a part of the store; a part of none where the store is not sound.

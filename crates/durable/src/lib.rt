@@ -1,10 +1,8 @@
-// The store kept on a disk: each number of it is written and made durable before it counts as written.
+// The store on a disk, by what the disk is asked: each number of it is written and made durable before it counts as written.
 #![tactic(auto)]
 
-mod cells;
 mod disk;
-mod keeper;
+mod on_disk;
 
-pub use cells::KeptCells;
 pub use disk::Disk;
-pub use keeper::{InMemory, Keeper, OnDisk};
+pub use on_disk::OnDisk;

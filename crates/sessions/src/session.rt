@@ -17,7 +17,7 @@ ghost use Rattle.sessions.specs.Sessions.{bits_asked, power_of, look_answer, Few
 
 use crate::reply::{look_text, root_text, sign_text, slot_text, state_text};
 use counter::{Done, slot};
-use durable::{Keeper, KeptCells};
+use durable::{Keeper, LentCells};
 use hash::{Number, RowHasher};
 use keys::{Refusal, Signer};
 use sha256::RowSha256;
@@ -52,10 +52,10 @@ fn sign_kept<H: RowHasher, K: Keeper>(
     ensures accepted { GivenAccepted H.mix (value_of signer.now.seed) signer.now.levels bits.now result room.new }
     ensures in_step { K.IN_MEMORY ≡ false → InStep (K.state keeper.old) store.old → InStep (K.state keeper.new) store.new }
 {
-    sign_in::<H, KeptCells<'_, K>>(
+    sign_in::<H, LentCells<'_, K>>(
         signer,
         bits,
-        &mut KeptCells::new(store, lasts, keeper),
+        &mut LentCells::new(store, lasts, keeper),
         room,
     )
 }

@@ -10,7 +10,7 @@ ghost use Rattle.counter.specs.Reserving.{ForPower, Asked, Counts, InStep, Ackno
 ghost use Rattle.signer.specs.Answers.{refusal, answer, stored, RoomSays, GivenAccepted};
 ghost use Rattle.signer.specs.Promises.{Own};
 
-use counter::{Cells, Done, LentCells, refuse_store, reserve_in};
+use counter::{Cells, Done, InMemory, LentCells, refuse_store, reserve_in};
 use hash::{Number, RowHasher};
 use keys::{Refusal, Signer};
 use signatures::{SignatureRoom, SignatureView, sign_with, verify};
@@ -69,7 +69,9 @@ pub fn sign<H: RowHasher>(
     ensures room { RoomSays H.mix (value_of signer.now.seed) signer.now.levels bits.now result room.old room.new }
     ensures accepted { GivenAccepted H.mix (value_of signer.now.seed) signer.now.levels bits.now result room.new }
 {
-    sign_in::<H, LentCells<'_>>(signer, bits, &mut LentCells::new(store, lasts), room)
+    let mut keeper = InMemory;
+    let mut cells = LentCells::new(store, lasts, &mut keeper);
+    sign_in::<H, LentCells<'_, InMemory>>(signer, bits, &mut cells, room)
 }
 
 // Whether a signature is accepted, for a row of bits and a root of so many levels. If it is, then of every signer whose root this is it is that signer's own, or two rows are shown that hash to the same.

@@ -1,5 +1,5 @@
 // A file of sixteen bytes as the disk that a store lies on.
-ghost use Rattle.std.specs.Prelude.{◌≡◌, [], is_ok, IfOk};
+ghost use Rattle.std.specs.Prelude.{◌≡◌, false, [], is_ok, IfOk};
 ghost use Rattle.counter.specs.Cells.{left_by, still};
 ghost use Rattle.store_files.specs.Format.{file_bytes};
 
@@ -76,6 +76,8 @@ impl<F: FileExt + OpenFile + Drop> StoreFile<F> {
 }
 
 impl<F: FileExt + OpenFile + Drop> Disk for StoreFile<F> {
+    ghost sure = { false };
+
     ghost state = { λ f. record { settled = f.settled; pending = f.waits.writes } };
 
     // What is noted here of the write, the next line asks the file for.

@@ -1,7 +1,7 @@
 // A file that takes few bytes at a time, and of which one call fails.
 use crate::folder::{new_folder, path_in};
-use counter::{Done, reserve_in};
-use durable::{KeptCells, OnDisk};
+use counter::{Done, LentCells, reserve_in};
+use durable::OnDisk;
 use std::cell::Cell;
 use std::fs::{File, Metadata, OpenFile, OpenOptions};
 use std::io::ErrorKind;
@@ -77,7 +77,7 @@ fn ask(
     let mut store = [0; 4];
     store.copy_from_slice(file.numbers());
     let mut keeper = OnDisk::new(file)?;
-    let done = reserve_in(3, &mut KeptCells::new(&mut store, u64::MAX, &mut keeper));
+    let done = reserve_in(3, &mut LentCells::new(&mut store, u64::MAX, &mut keeper));
     let failure = match keeper.disk().failure() {
         Some(error) => Some(error.kind()),
         None => None,

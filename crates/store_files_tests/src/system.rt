@@ -1,7 +1,7 @@
 // Files of the system: a new store, its lock, what is no store, and keys that are reserved in a file.
 use crate::folder::{new_folder, path_in};
-use counter::{Done, reserve_in};
-use durable::{KeptCells, OnDisk};
+use counter::{Done, LentCells, reserve_in};
+use durable::OnDisk;
 use std::fs;
 use std::test::Fail;
 use store_files::{Lock, Problem, create, open};
@@ -88,7 +88,7 @@ fn next_key(rt: &HostRuntime, path: &str) -> Result<Done, Problem> {
     let mut store = [0; 4];
     store.copy_from_slice(file.numbers());
     let mut keeper = OnDisk::new(file)?;
-    Ok(reserve_in(3, &mut KeptCells::new(&mut store, u64::MAX, &mut keeper)))
+    Ok(reserve_in(3, &mut LentCells::new(&mut store, u64::MAX, &mut keeper)))
 }
 
 #[test]
