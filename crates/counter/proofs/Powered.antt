@@ -25,6 +25,10 @@ from_power sure n P Q f (w, few, all, p) = (w, few, all, f w p)
 pub at_power : (sure : Bool) (n : ℕ) (P : ℕ → Type 0) → sure ≡ true → ForPower sure n P → P n
 at_power sure n P e (w, few, all, p) = subst P (all e) p
 
+-- what is known where other things fail, too
+pub less_sure : (sure b : Bool) (n : ℕ) (P : ℕ → Type 0) → (b ≡ true → sure ≡ true) → ForPower sure n P → ForPower b n P
+less_sure sure b n P f (w, few, all, p) = (w, few, λ e. all (f e), p)
+
 -- a request that is refused writes nothing, nor does one that finds all keys given
 pub refused_asked : (sure : Bool) (k : ℕ) (o : Option Refusal) (l : ℕ) (m : List ℕ) (ws : List Write) (r : Refusal) → Unless {T = ⊤} o (Err r) (λ _. ⊤) → ForPower sure k (Asked o l m (Refused r) ws ws m)
 refused_asked sure k (Some e) l m ws r u = for_any sure k _ (λ w. record { answer = ap (λ (x : Refusal). Refused x) u; writes = sym (append-nil ws); held = refl })

@@ -16,13 +16,12 @@ ghost use Rattle.texts.specs.declared.signature.ReadSignature.{ReadSignature};
 ghost use Rattle.sessions.specs.Sessions.{bits_asked, power_of, look_answer, FewerWrites, Executed, Failed, Counted, StaysInStep, Answered, Promised, PromisedStrings};
 
 use crate::reply::{look_text, root_text, sign_text, slot_text, state_text};
-use counter::{Done, slot};
-use durable::{Keeper, LentCells};
+use counter::{Done, Keeper, slot};
 use hash::{Number, RowHasher};
 use keys::{Refusal, Signer};
 use sha256::RowSha256;
 use signatures::{SignatureRoom, SignatureView};
-use signer::{look, refuse, sign_in};
+use signer::{look, refuse, sign_kept};
 use std::alloc::{AllocError, Global};
 use texts::{Command, ReadError, SignatureLines, text_bits};
 use tree::Tree;
@@ -35,29 +34,6 @@ pub struct Session {
     // For how many writes power lasts at the next `sign`; `None`: it lasts.
     power: Option<u64>,
     room: SignatureRoom,
-}
-
-// Signs over a store that a keeper keeps. A function of its own, since what a struct of two loans leaves is seen only by who lends it both.
-fn sign_kept<H: RowHasher, K: Keeper>(
-    signer: &Signer,
-    bits: &[bool],
-    store: &mut [u32],
-    lasts: u64,
-    keeper: &mut K,
-    room: &mut SignatureRoom,
-) -> Done
-    ensures done { ForPower K.IN_MEMORY lasts (λ w. (result ≡ answer signer.now.levels store.old (length bits.now) w) × (store.new ≡ stored signer.now.levels store.old (length bits.now) w)) }
-    ensures counts { Counts store.old result store.new }
-    ensures room { RoomSays H.mix (value_of signer.now.seed) signer.now.levels bits.now result room.old room.new }
-    ensures accepted { GivenAccepted H.mix (value_of signer.now.seed) signer.now.levels bits.now result room.new }
-    ensures in_step { K.IN_MEMORY ≡ false → InStep (K.state keeper.old) store.old → InStep (K.state keeper.new) store.new }
-{
-    sign_in::<H, LentCells<'_, K>>(
-        signer,
-        bits,
-        &mut LentCells::new(store, lasts, keeper),
-        room,
-    )
 }
 
 impl Session {

@@ -1,5 +1,5 @@
 // The entry that signs, which reserves the key itself, and the entry that looks.
-ghost use Rattle.std.specs.Prelude.{◌≡◌, ℕ, true, ⊤, ◌⊎◌, length};
+ghost use Rattle.std.specs.Prelude.{◌≡◌, ℕ, true, false, ⊤, ◌⊎◌, length};
 ghost use Rattle.hash.specs.Value.{value_of};
 ghost use Rattle.keys.specs.Refusals.{Unless};
 ghost use Rattle.tree.specs.Tree.{node};
@@ -10,7 +10,7 @@ ghost use Rattle.counter.specs.Reserving.{ForPower, Asked, Counts, InStep, Ackno
 ghost use Rattle.signer.specs.Answers.{refusal, answer, stored, RoomSays, GivenAccepted};
 ghost use Rattle.signer.specs.Promises.{Own};
 
-use counter::{Cells, Done, InMemory, LentCells, refuse_store, reserve_in};
+use counter::{Cells, Done, InMemory, Keeper, LentCells, refuse_store, reserve_in};
 use hash::{Number, RowHasher};
 use keys::{Refusal, Signer};
 use signatures::{SignatureRoom, SignatureView, sign_with, verify};
@@ -55,7 +55,26 @@ pub fn sign_in<H: RowHasher, C: Cells>(
     }
 }
 
-// The same with the store in a lent slice, and power for so many writes.
+// The same with the store in a lent slice, whose writes a keeper keeps, and power for so many of them.
+pub fn sign_kept<H: RowHasher, K: Keeper>(
+    signer: &Signer,
+    bits: &[bool],
+    store: &mut [u32],
+    lasts: u64,
+    keeper: &mut K,
+    room: &mut SignatureRoom,
+) -> Done
+    ensures done { ForPower K.sure lasts (λ w. (result ≡ answer signer.now.levels store.old (length bits.now) w) × (store.new ≡ stored signer.now.levels store.old (length bits.now) w)) }
+    ensures counts { Counts store.old result store.new }
+    ensures room { RoomSays H.mix (value_of signer.now.seed) signer.now.levels bits.now result room.old room.new }
+    ensures accepted { GivenAccepted H.mix (value_of signer.now.seed) signer.now.levels bits.now result room.new }
+    ensures in_step { K.IN_MEMORY ≡ false → InStep (K.state keeper.old) store.old → InStep (K.state keeper.new) store.new }
+{
+    let mut cells = LentCells::new(store, lasts, keeper);
+    sign_in::<H, LentCells<'_, K>>(signer, bits, &mut cells, room)
+}
+
+// The same with the store in memory alone.
 pub fn sign<H: RowHasher>(
     signer: &Signer,
     bits: &[bool],
@@ -69,9 +88,7 @@ pub fn sign<H: RowHasher>(
     ensures room { RoomSays H.mix (value_of signer.now.seed) signer.now.levels bits.now result room.old room.new }
     ensures accepted { GivenAccepted H.mix (value_of signer.now.seed) signer.now.levels bits.now result room.new }
 {
-    let mut keeper = InMemory;
-    let mut cells = LentCells::new(store, lasts, &mut keeper);
-    sign_in::<H, LentCells<'_, InMemory>>(signer, bits, &mut cells, room)
+    sign_kept::<H, InMemory>(signer, bits, store, lasts, &mut InMemory, room)
 }
 
 // Whether a signature is accepted, for a row of bits and a root of so many levels. If it is, then of every signer whose root this is it is that signer's own, or two rows are shown that hash to the same.

@@ -4,4 +4,4 @@
 pub mod entry;
 pub mod promises;
 
-pub use entry::{look, refuse, sign, sign_in};
+pub use entry::{look, refuse, sign, sign_in, sign_kept};

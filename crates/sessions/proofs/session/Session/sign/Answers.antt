@@ -10,7 +10,7 @@ use Rattle.counter.specs.declared.answer.Done.TheVariants.{Refused}
 use Rattle.keys.proofs.Refused.{bits_taken, unrefused}
 use Rattle.counter.specs.Reserving.{ForPower, Counts, InStep}
 use Rattle.counter.specs.declared.answer.Done.{Done}
-use Rattle.counter.proofs.Powered.{from_power, refused_asked}
+use Rattle.counter.proofs.Powered.{from_power, less_sure, refused_asked}
 use Rattle.signer.specs.Answers.{refusal, answer, stored, RoomSays, GivenAccepted}
 use Rattle.signer.proofs.Entries.{taken}
 use Rattle.texts.specs.Bits.{text_row}
@@ -46,7 +46,7 @@ returns g c =
     let lent = c.deref_mut.ensures.value in
     let back = with_items_is self.store c.sign_kept.new.store (c.sign_kept.auto.store ∙ c.deref_mut.ensures.len) in
     record {
-      done = kept_for l lent count c.unwrap_or-lasts.ensures back c.sign_kept.ensures.done;
+      done = less_sure g.K.Keeper.sure g.K.Keeper.IN_MEMORY _ _ g.met.K.Keeper.memory_is_sure (kept_for l lent count c.unwrap_or-lasts.ensures back c.sign_kept.ensures.done);
       counts = subst₂ (λ (x y : List ℕ). Counts x c.sign_kept.result y) lent (sym back) c.sign_kept.ensures.counts;
       room = subst (λ (bs : List Bool). RoomSays h s l bs c.sign_kept.result self.room c.sign_kept.new.room) row c.sign_kept.ensures.room;
       accepted = subst (λ (bs : List Bool). GivenAccepted h s l bs c.sign_kept.result c.sign_kept.new.room) row c.sign_kept.ensures.accepted;
