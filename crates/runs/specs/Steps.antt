@@ -18,10 +18,14 @@ use Rattle.sessions.specs.declared.session.Session.{Session}
 use Rattle.runs.specs.Turns.{whole, Turn}
 use Rattle.runs.specs.declared.program.Program.{Program}
 
--- a line can be read as a command: it spells it; but a store on a disk cannot be replaced, so that `store` is a command only where the store is in memory
+-- whether a command is one at all: a store on a disk cannot be replaced, so that `store` is a command only where the store is in memory
+abbrev pub allowed : (in_memory : Bool) → Command → Bool
+allowed b (Store v) = b
+allowed b c = true
+
+-- a line can be read as a command, and spells it
 abbrev pub Readable : (in_memory : Bool) → List ℕ → Command → Type 0
-Readable b line (Store v) = (b ≡ true) × Spelled line (Store v)
-Readable b line c = Spelled line c
+Readable b line c = (allowed b c ≡ true) × Spelled line c
 
 -- a line is a command, which is done and answered, given the lines behind it; where the store lies on a disk, maybe with power for fewer writes than was said
 abbrev pub Commanded : (in_memory : Bool) → ℕ → Session → (line : List ℕ) → (behind : List (List ℕ)) → Option (List ℕ) → Session → Type 0

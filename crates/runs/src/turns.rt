@@ -4,7 +4,7 @@ ghost use Rattle.std.specs.Option.{option_map};
 ghost use Rattle.sessions.specs.Sessions.{Unchanged};
 ghost use Rattle.texts.specs.declared.command.Command.{Command};
 ghost use Rattle.runs.specs.Turns.{whole, Turn};
-ghost use Rattle.runs.specs.Steps.{Readable, Turned, FailedAt, KeptInStep};
+ghost use Rattle.runs.specs.Steps.{allowed, Readable, Turned, FailedAt, KeptInStep};
 
 use durable::Keeper;
 use keys::Refusal;
@@ -22,13 +22,23 @@ pub fn is_whole(lines: &[Vec<u8>]) -> bool
     }
 }
 
-// Reads a line as a command, if it is one. Where the store is not in memory, `store` is none, since a store on a disk is not replaced.
+// Whether a command is one at all: a store that is not in memory is not replaced.
+fn is_allowed(command: &Command, in_memory: bool) -> bool
+    ensures { result ≡ allowed in_memory command.now }
+{
+    match command {
+        Command::Store(_) => in_memory,
+        _ => true,
+    }
+}
+
+// Reads a line as a command, if it is one.
 fn read_line(heap: Global, line: &[u8], in_memory: bool) -> Result<Option<Command>, AllocError>
     ensures { IfOk result (λ o. MatchOption o ((c : Command) → Readable in_memory line.now c → ⊥) (λ c. Readable in_memory line.now c)) }
 {
     match read_command(heap, line)? {
-        Some(Command::Store(_)) if !in_memory => Ok(None),
-        command => Ok(command),
+        Some(command) => Ok(is_allowed(&command, in_memory).then_some(command)),
+        None => Ok(None),
     }
 }
 
