@@ -1,7 +1,9 @@
 -- The lemmas of this crate.
+mod Across
 mod Appended
 mod Asked
 mod Cut
+mod Found
 mod Once
 mod Printed
 mod Progress

@@ -1,5 +1,5 @@
 -- What is promised of the turns of any run, in words of what was typed and what was printed. Assumes nothing: these are definitions.
-use Rattle.std.specs.Prelude.{◌≡◌, ℕ, ◌^◌, ◌<◌, true, ◌⊎◌, All, List, ◌∷◌, ◌++◌, Some, codes}
+use Rattle.std.specs.Prelude.{◌≡◌, ℕ, ◌^◌, ◌≤◌, ◌<◌, Bool, true, ◌⊎◌, All, List, ◌∷◌, ◌++◌, Some, codes}
 use Rattle.hash.specs.Hex.{hex}
 use Rattle.hash.specs.Value.{bytes_of, value_of}
 use Rattle.sha256.specs.Rows.{row_hash}
@@ -8,6 +8,8 @@ use Rattle.tree.specs.Tree.{node}
 use Rattle.tree.specs.declared.own.Tree.{Tree}
 use Rattle.signatures.specs.Lines.{signature_text}
 use Rattle.signatures.specs.Signatures.{Signature, signed, accepted}
+use Rattle.counter.specs.Cells.{DiskState, Found}
+use Rattle.counter.specs.Store.{next, sound}
 use Rattle.signer.specs.Promises.{Own}
 use Rattle.digests.specs.Digests.{LocatedStrings}
 use Rattle.texts.specs.Bits.{bits_of_text}
@@ -43,11 +45,19 @@ AskedWith ts l n seed =
 abbrev pub PrintsKey : Turn → ℕ → Type 0
 PrintsKey t k = (line : List ℕ) × (rest : List ℕ) × (t.printed ≡ Some (line ++ (10 ∷ rest))) × KeySpelled line k
 
--- between two `store` lines no key is printed twice: of two keys that are printed the later is the larger
-abbrev pub KeysRise : List Turn → Type 0
-KeysRise ts =
-    (before between after : List Turn) (t u : Turn) (j k : ℕ) → ts ≡ before ++ (t ∷ (between ++ (u ∷ after))) → All (λ x. IsStore x → ⊥) between →
+-- no key is printed twice: of two keys that are printed the later is the larger. Where the store is in memory, a `store` line replaces it, and this holds between two of them
+abbrev pub KeysRise : (in_memory : Bool) → List Turn → Type 0
+KeysRise b ts =
+    (before between after : List Turn) (t u : Turn) (j k : ℕ) → ts ≡ before ++ (t ∷ (between ++ (u ∷ after))) → All (λ x. b ≡ true → IsStore x → ⊥) between →
     PrintsKey t j → PrintsKey u k → j < k
+
+-- each key that is printed is at least a, and below z
+abbrev pub KeysWithin : List Turn → (a z : ℕ) → Type 0
+KeysWithin ts a z = (before after : List Turn) (t : Turn) (k : ℕ) → ts ≡ before ++ (t ∷ after) → PrintsKey t k → (a ≤ k) × (k < z)
+
+-- whatever may be found of the disk afterwards, of a store that began as m: it is sound, its next key is no smaller, and each key that was printed is below it, and none was given before
+abbrev pub KeptBy : (first : List ℕ) → List Turn → DiskState → Type 0
+KeptBy m ts d = (m₁ : List ℕ) → Found d m₁ → (sound m₁ ≡ true) × (next m ≤ next m₁) × KeysWithin ts (next m) (next m₁)
 
 -- a turn is a `sign` line, and prints the signature of its text by key k, of the signer with these levels, bits and seed; it is accepted for the text and that signer's root
 abbrev pub SignsText : Turn → (levels bits seed key : ℕ) → Type 0
@@ -81,8 +91,8 @@ RootsPrinted ts =
     (l : ℕ) × (n : ℕ) × (seed : ℕ) × AskedWith before l n seed × (t.printed ≡ Some (refusal_or (tree_refusal l n) (hex (bytes_of (node row_hash n seed l 0)))))
 
 -- all of it
-pub record Promised (ts : List Turn) : Type 0 where
-  pub keys_rise : KeysRise ts
+pub record Promised (b : Bool) (ts : List Turn) : Type 0 where
+  pub keys_rise : KeysRise b ts
   pub signatures_accepted : SignaturesAccepted ts
   pub looked_own : LookedOwn ts
   pub roots_printed : RootsPrinted ts

@@ -7,4 +7,4 @@ pub mod streams;
 pub mod turns;
 
 pub use program::Program;
-pub use streams::run;
+pub use streams::{run, run_on};

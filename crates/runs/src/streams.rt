@@ -3,9 +3,10 @@ ghost use Rattle.std.specs.Prelude.{◌≡◌, ℕ, List, [], OnOk, string_bytes
 ghost use Rattle.std.specs.Option.{option_map};
 ghost use Rattle.std.specs.IoError.{error_kind};
 ghost use Rattle.runs.specs.Turns.{bytes_printed};
-ghost use Rattle.runs.specs.Runs.{Gone, AppendsFront, Ended};
+ghost use Rattle.runs.specs.Runs.{Gone, AppendsFront, Ended, EndedInMemory, KeptOnDisk, CountKept};
 
 use crate::program::Program;
+use durable::{InMemory, Keeper};
 use std::alloc::Global;
 use std::io;
 use std::io::{BufRead, ErrorKind, Write};
@@ -49,15 +50,29 @@ fn print<W: Write>(writer: &mut W, text: Option<String>) -> io::Result<()>
     writer.flush()
 }
 
-// Takes the lines one by one, each answered before the next one is waited for, to the end of the input.
-pub fn run<R: BufRead + Drop, W: Write>(heap: Global, reader: R, writer: &mut W) -> io::Result<()>
-    ensures { Ended (R.remaining reader) (W.contents writer.old) (W.contents writer.new) result }
+// Takes the lines one by one, each answered before the next one is waited for, to the end of the input. The store is at first what it is known to hold where the keeper keeps it.
+pub fn run_on<K: Keeper, R: BufRead + Drop, W: Write>(
+    heap: Global,
+    store: Vec<u32>,
+    keeper: &mut K,
+    reader: R,
+    writer: &mut W,
+) -> io::Result<()>
+    ensures ended { Ended K.IN_MEMORY store.items (KeptOnDisk K.IN_MEMORY store.items (K.state keeper.old) (K.state keeper.new)) (R.remaining reader) (W.contents writer.old) (W.contents writer.new) result }
+    ensures kept { CountKept K.IN_MEMORY store.items (K.state keeper.old) (K.state keeper.new) }
 {
-    let mut program = Program::new(heap);
+    let mut program = Program::new(heap, store);
     for line in reader.split(heap, b'\n') {
-        let text = program.step(heap, &line?)?;
+        let text = program.step(heap, &line?, keeper)?;
         print(writer, text)?;
     }
-    let text = program.finish(heap)?;
+    let text = program.finish(heap, keeper)?;
     print(writer, text)
+}
+
+// The same with a store in memory alone, which has no numbers at first.
+pub fn run<R: BufRead + Drop, W: Write>(heap: Global, reader: R, writer: &mut W) -> io::Result<()>
+    ensures { EndedInMemory (R.remaining reader) (W.contents writer.old) (W.contents writer.new) result }
+{
+    run_on(heap, Vec::new(heap), &mut InMemory, reader, writer)
 }

@@ -1,6 +1,8 @@
-// Tests of whole runs: what is printed for each line, and for bytes that end, fail or cannot be read anywhere.
+// Tests of whole runs: what is printed for each line, for bytes that end, fail or cannot be read anywhere, and on a disk that fails.
 #![tactic(auto)]
 
+#[cfg(test)]
+mod disks;
 #[cfg(test)]
 mod failing;
 #[cfg(test)]
