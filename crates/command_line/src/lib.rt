@@ -3,6 +3,7 @@
 
 mod arguments;
 mod help;
+mod serving;
 
 pub use arguments::{Invocation, read_arguments};
-pub use help::HELP;
+pub use serving::start;

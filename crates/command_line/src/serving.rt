@@ -1,40 +1,18 @@
 // What the program does for each way of asking for it.
-ghost use Rattle.std.specs.Prelude.{◌≡◌, false, []};
-ghost use Rattle.counter.specs.Store.{sound};
-ghost use Rattle.runs.specs.Promises.{KeptBy};
-ghost use Rattle.runs.specs.Runs.{Ended};
-ghost use Rattle.command_line.specs.Files.{disk_of};
-
 use crate::arguments::{Invocation, read_arguments};
 use crate::help::HELP;
 use durable::OnDisk;
-use runs::{run, run_on};
-use std::alloc::Global;
-use std::fs::{File, OpenFile};
-use std::io::{BufRead, BufReader, Write};
-use std::os::unix::fs::FileExt;
+use runs::{run, run_on_disk};
+use std::io::BufReader;
 use std::process::ExitCode;
 use std::{env, io, process};
-use store_files::{Lock, Problem, StoreFile, create, open};
-
-// A run on the store in a file, which is lent for as long as the run lasts.
-pub fn run_in_file<F: FileExt + OpenFile + Drop, R: BufRead + Drop, W: Write>(
-    heap: Global,
-    store: &mut OnDisk<StoreFile<F>>,
-    reader: R,
-    writer: &mut W,
-) -> io::Result<()>
-    ensures { Ended false (disk_of store.old).settled (λ ts. (disk_of store.old).pending ≡ [] → sound (disk_of store.old).settled ≡ true → KeptBy (disk_of store.old).settled ts (disk_of store.new)) (R.remaining reader) (W.contents writer.old) (W.contents writer.new) result }
-{
-    let numbers = Vec::from_slice(heap, store.disk().numbers())?;
-    run_on(heap, numbers, store, reader, writer)
-}
+use store_files::{Lock, Problem, create, open};
 
 // A run on the store in that file, from the standard input to the standard output. Who calls this has the lock.
 fn run_locked(rt: &HostRuntime, path: &str) -> Result<(), Problem> {
     let mut store = OnDisk::new(open(rt, path)?)?;
     let reader = BufReader::new(rt.alloc(), rt.stdin())?;
-    run_in_file(rt.alloc(), &mut store, reader, &mut rt.stdout())?;
+    run_on_disk(rt.alloc(), &mut store, reader, &mut rt.stdout())?;
     match store.disk().failure() {
         Some(error) => Err(Problem::Io(error)),
         None => Ok(()),

@@ -12,6 +12,10 @@ pub trait Disk {
     // Whether no call of it fails.
     ghost sure: { Bool };
 
+    // The numbers that it holds for certain.
+    fn numbers(&self) -> &[u32]
+        ensures { result.now ≡ (state self.now).settled };
+
     // Asks for one number in its place. Whether it is there is known only after `sync`, and not at all where this fails.
     fn put(&mut self, place: usize, value: u32) -> Result<(), NotWritten>
         ensures asked { OnOk result (state self.new ≡ with_pending (state self.old) place value) }

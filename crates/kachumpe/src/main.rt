@@ -1,11 +1,10 @@
-// The program: a whole run, from the standard input to the standard output.
+// The program.
 #![tactic(auto)]
 
-use runs::run;
+use command_line::start;
 use std::io;
-use std::io::BufReader;
+use std::process::ExitCode;
 
-fn main(rt: HostRuntime) -> io::Result<()> {
-    let reader = BufReader::new(rt.alloc(), rt.stdin())?;
-    run(rt.alloc(), reader, &mut rt.stdout())
+fn main(rt: HostRuntime) -> io::Result<ExitCode> {
+    start(&rt)
 }

@@ -48,6 +48,10 @@ EndedInMemory input before after r = Ended true [] (λ _. Unit {0}) input before
 abbrev pub KeptOnDisk : (in_memory : Bool) → (store : List ℕ) → (before after : DiskState) → List Turn → Type 0
 KeptOnDisk b m d d₁ ts = b ≡ false → InStep d m → sound m ≡ true → KeptBy m ts d₁
 
+-- the same of a disk for which nothing waited, and of the store that it held
+abbrev pub KeptAll : (before after : DiskState) → List Turn → Type 0
+KeptAll d d₁ ts = d.pending ≡ [] → sound d.settled ≡ true → KeptBy d.settled ts d₁
+
 -- a disk that was in step with the store: whatever may be found of it then, the count was not put back
 abbrev pub CountKept : (in_memory : Bool) → (store : List ℕ) → (before after : DiskState) → Type 0
 CountKept b m d d₁ = b ≡ false → InStep d m → (m₁ : List ℕ) → Found d₁ m₁ → KeepsCount m m₁

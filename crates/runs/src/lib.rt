@@ -7,4 +7,4 @@ pub mod streams;
 pub mod turns;
 
 pub use program::Program;
-pub use streams::{run, run_on};
+pub use streams::{run, run_on, run_on_disk};

@@ -4,7 +4,7 @@ ghost use Rattle.std.specs.Option.{option_map};
 ghost use Rattle.runs.specs.Steps.{Fresh, taken, TurnEnds, Stepped, Finished, Kept, KeptInStep};
 
 use crate::turns::{is_whole, turn};
-use durable::Keeper;
+use counter::Keeper;
 use sessions::Session;
 use std::alloc::{AllocError, Global};
 

@@ -1,12 +1,15 @@
 // Reads lines to the end, asks the program, and prints what it answers.
-ghost use Rattle.std.specs.Prelude.{◌≡◌, ℕ, List, [], OnOk, string_bytes};
+ghost use Rattle.std.specs.Prelude.{◌≡◌, ℕ, false, List, [], OnOk, string_bytes};
 ghost use Rattle.std.specs.Option.{option_map};
 ghost use Rattle.std.specs.IoError.{error_kind};
 ghost use Rattle.runs.specs.Turns.{bytes_printed};
-ghost use Rattle.runs.specs.Runs.{Gone, AppendsFront, Ended, EndedInMemory, KeptOnDisk, CountKept};
+ghost use Rattle.runs.specs.Runs.{Gone, AppendsFront, Ended, EndedInMemory, KeptOnDisk, KeptAll, CountKept};
+ghost use Rattle.counter.specs.Cells.{Found};
+ghost use Rattle.counter.specs.Reserving.{KeepsCount};
 
 use crate::program::Program;
-use durable::{InMemory, Keeper};
+use counter::{InMemory, Keeper};
+use durable::{Disk, OnDisk};
 use std::alloc::Global;
 use std::io;
 use std::io::{BufRead, ErrorKind, Write};
@@ -68,6 +71,20 @@ pub fn run_on<K: Keeper, R: BufRead + Drop, W: Write>(
     }
     let text = program.finish(heap, keeper)?;
     print(writer, text)
+}
+
+// The same with the store that a disk holds, where nothing waits for it.
+pub fn run_on_disk<D: Disk + Drop, R: BufRead + Drop, W: Write>(
+    heap: Global,
+    store: &mut OnDisk<D>,
+    reader: R,
+    writer: &mut W,
+) -> io::Result<()>
+    ensures ended { Ended false (D.state store.old.disk).settled (KeptAll (D.state store.old.disk) (D.state store.new.disk)) (R.remaining reader) (W.contents writer.old) (W.contents writer.new) result }
+    ensures kept { (D.state store.old.disk).pending ≡ [] → (m₁ : List ℕ) → Found (D.state store.new.disk) m₁ → KeepsCount (D.state store.old.disk).settled m₁ }
+{
+    let numbers = Vec::from_slice(heap, store.disk().numbers())?;
+    run_on::<OnDisk<D>, R, W>(heap, numbers, store, reader, writer)
 }
 
 // The same with a store in memory alone, which has no numbers at first.

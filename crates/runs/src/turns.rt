@@ -6,7 +6,7 @@ ghost use Rattle.texts.specs.declared.command.Command.{Command};
 ghost use Rattle.runs.specs.Turns.{whole, Turn};
 ghost use Rattle.runs.specs.Steps.{allowed, Readable, Turned, FailedAt, KeptInStep};
 
-use durable::Keeper;
+use counter::Keeper;
 use keys::Refusal;
 use sessions::Session;
 use std::alloc::{AllocError, Global};

@@ -46,13 +46,6 @@ impl<F: FileExt + OpenFile + Drop> StoreFile<F> {
         })
     }
 
-    // The numbers that the file holds for certain.
-    pub fn numbers(&self) -> &[u32]
-        ensures { result.now ≡ self.now.settled }
-    {
-        &self.settled
-    }
-
     // Why the file failed, where it has.
     pub fn failure(&self) -> Option<io::Error>
         ensures { result ≡ self.now.failure }
@@ -79,6 +72,10 @@ impl<F: FileExt + OpenFile + Drop> Disk for StoreFile<F> {
     ghost sure = { false };
 
     ghost state = { λ f. record { settled = f.settled; pending = f.waits.writes } };
+
+    fn numbers(&self) -> &[u32] {
+        &self.settled
+    }
 
     // What is noted here of the write, the next line asks the file for.
     fn put(&mut self, place: usize, value: u32) -> Result<(), NotWritten> {
