@@ -19,6 +19,10 @@ follows_itself m s = (s, omega arith, omega arith)
 pub still_in_step : (m : List ℕ) → InStep (still m) m
 still_in_step m = (refl, λ m₁ e. subst (Follows m) (sym e) (follows_itself m))
 
+-- so is one for which nothing waits
+pub nothing_waits : (d : DiskState) → d.pending ≡ [] → InStep d d.settled
+nothing_waits d none = subst (λ (x : DiskState). InStep x d.settled) (ap (λ (ws : List Write). record { settled = d.settled; pending = ws }) (sym none)) (still_in_step d.settled)
+
 -- one for which a write waits
 waits_in_step : (m : List ℕ) (p v : ℕ) → Follows m (set m p v) → InStep (record { settled = m; pending = record { place = p; value = v } ∷ [] }) m
 waits_in_step m p v f = (refl, λ m₁ found. elim found [ inl e ↦ subst (Follows m) (sym e) (follows_itself m) | inr e ↦ subst (Follows m) (sym e) f ])

@@ -1,5 +1,5 @@
 -- A run: the bytes that are read and those that are printed. Assumes nothing: these are definitions.
-use Rattle.std.specs.Prelude.{◌≡◌, ℕ, zero, suc, Bool, true, false, ◌⊎◌, List, [], ◌∷◌, ◌++◌, map, Ok, Err, Option, Result, IfSome, OnOk, MatchResult}
+use Rattle.std.specs.Prelude.{◌≡◌, ℕ, zero, suc, Bool, true, false, ◌⊎◌, List, [], ◌∷◌, ◌++◌, map, Ok, Err, Option, Result, IfSome, IsErr, OnOk, MatchResult}
 use Rattle.std.specs.List.{flat_map}
 use Rattle.std.specs.Io.KnownBytes.{Appends}
 use Rattle.reading.specs.Newlines.{lines_of}
@@ -51,6 +51,10 @@ KeptOnDisk b m d d₁ ts = b ≡ false → InStep d m → sound m ≡ true → K
 -- the same of a disk for which nothing waited, and of the store that it held
 abbrev pub KeptAll : (before after : DiskState) → List Turn → Type 0
 KeptAll d d₁ ts = d.pending ≡ [] → sound d.settled ≡ true → KeptBy d.settled ts d₁
+
+-- memory failed before a line was read: nothing was printed, and the disk is as it was
+abbrev pub NotBegun : {E : Type 0} → (before after : Option (List ℕ)) → (d d₁ : DiskState) → Result (Unit {0}) E → Type 0
+NotBegun before after d d₁ r = (after ≡ before) × (d₁ ≡ d) × IsErr r
 
 -- a disk that was in step with the store: whatever may be found of it then, the count was not put back
 abbrev pub CountKept : (in_memory : Bool) → (store : List ℕ) → (before after : DiskState) → Type 0

@@ -1,9 +1,9 @@
 // Reads lines to the end, asks the program, and prints what it answers.
-ghost use Rattle.std.specs.Prelude.{◌≡◌, ℕ, false, List, [], OnOk, string_bytes};
+ghost use Rattle.std.specs.Prelude.{◌≡◌, ℕ, false, ◌⊎◌, List, [], OnOk, string_bytes};
 ghost use Rattle.std.specs.Option.{option_map};
 ghost use Rattle.std.specs.IoError.{error_kind};
 ghost use Rattle.runs.specs.Turns.{bytes_printed};
-ghost use Rattle.runs.specs.Runs.{Gone, AppendsFront, Ended, EndedInMemory, KeptOnDisk, KeptAll, CountKept};
+ghost use Rattle.runs.specs.Runs.{Gone, AppendsFront, Ended, EndedInMemory, KeptOnDisk, KeptAll, CountKept, NotBegun};
 ghost use Rattle.counter.specs.Cells.{Found};
 ghost use Rattle.counter.specs.Reserving.{KeepsCount};
 
@@ -80,7 +80,7 @@ pub fn run_on_disk<D: Disk + Drop, R: BufRead + Drop, W: Write>(
     reader: R,
     writer: &mut W,
 ) -> io::Result<()>
-    ensures ended { Ended false (D.state store.old.disk).settled (KeptAll (D.state store.old.disk) (D.state store.new.disk)) (R.remaining reader) (W.contents writer.old) (W.contents writer.new) result }
+    ensures ended { Ended false (D.state store.old.disk).settled (KeptAll (D.state store.old.disk) (D.state store.new.disk)) (R.remaining reader) (W.contents writer.old) (W.contents writer.new) result ⊎ NotBegun (W.contents writer.old) (W.contents writer.new) (D.state store.old.disk) (D.state store.new.disk) result }
     ensures kept { (D.state store.old.disk).pending ≡ [] → (m₁ : List ℕ) → Found (D.state store.new.disk) m₁ → KeepsCount (D.state store.old.disk).settled m₁ }
 {
     let numbers = Vec::from_slice(heap, store.disk().numbers())?;
