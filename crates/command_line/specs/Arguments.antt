@@ -15,6 +15,12 @@ Asks words (InFile path) = (words ≡ string_bytes path ∷ []) × (is_path (str
 Asks words (New path) = (words ≡ codes "--new" ∷ string_bytes path ∷ []) × (is_path (string_bytes path) ≡ true)
 Asks words Help = words ≡ codes "--help" ∷ []
 
+-- the path of the store that is asked for
+abbrev pub path_of : Invocation → Option (List ℕ)
+path_of (InFile path) = Some (string_bytes path)
+path_of (New path) = Some (string_bytes path)
+path_of i = None
+
 -- what the words ask for was read; or nothing, where they ask for nothing
 abbrev pub Read : List (List ℕ) → Option Invocation → Type 0
 Read words (Some i) = Asks words i

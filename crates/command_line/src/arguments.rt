@@ -1,6 +1,7 @@
 // The arguments of the program.
 ghost use Rattle.std.specs.Prelude.{◌≡◌, [], ◌∷◌, IfOk, map, string_bytes};
-ghost use Rattle.command_line.specs.Arguments.{Read, is_path};
+ghost use Rattle.std.specs.Option.{option_map};
+ghost use Rattle.command_line.specs.Arguments.{Read, is_path, path_of};
 
 use std::alloc::{AllocError, Global};
 
@@ -14,6 +15,18 @@ pub enum Invocation {
     // a file of that path with a new store
     New(String),
     Help,
+}
+
+impl Invocation {
+    // The path of the store, where one is asked for.
+    pub fn path(&self) -> Option<&str>
+        ensures { option_map (λ p. p.now) result ≡ path_of self.now }
+    {
+        match self {
+            Invocation::InFile(path) | Invocation::New(path) => Some(path),
+            Invocation::InMemory | Invocation::Help => None,
+        }
+    }
 }
 
 // Whether a word is a path, and no option.

@@ -70,7 +70,10 @@ pub fn start(rt: &HostRuntime) -> io::Result<ExitCode> {
     match serve(rt, &invocation) {
         Ok(()) => Ok(ExitCode::SUCCESS),
         Err(problem) => {
-            eprintln!(rt; "kachumpe: {problem}")?;
+            match invocation.path() {
+                Some(path) => eprintln!(rt; "kachumpe: {path}: {problem}")?,
+                None => eprintln!(rt; "kachumpe: {problem}")?,
+            }
             Ok(ExitCode::FAILURE)
         }
     }

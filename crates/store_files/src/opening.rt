@@ -4,10 +4,11 @@ ghost use Rattle.std.specs.Prelude.{◌≡◌, [], IfOk};
 use crate::file::StoreFile;
 use crate::format::new_store;
 use crate::problem::Problem;
-use std::fs;
 use std::fs::{File, OpenOptions, TryLockError};
-use std::io::Write;
+use std::io::{ErrorKind, Write};
 use std::os::fd::AsRawFd;
+use std::path::Path;
+use std::{fs, io};
 
 // Opens the store in a file.
 pub fn open(rt: &HostRuntime, path: &str) -> Result<StoreFile<File>, Problem>
@@ -19,23 +20,39 @@ pub fn open(rt: &HostRuntime, path: &str) -> Result<StoreFile<File>, Problem>
         return Err(Problem::StandardStream);
     }
     match file.try_lock() {
-        Ok(()) => StoreFile::read(file),
-        Err(TryLockError::WouldBlock) => Err(Problem::Open),
-        Err(TryLockError::Error(error)) => Err(Problem::Io(error)),
+        Ok(()) => {}
+        Err(TryLockError::WouldBlock) => return Err(Problem::Open),
+        Err(TryLockError::Error(error)) => return Err(Problem::Io(error)),
     }
+    sync_folder(rt, path)?;
+    StoreFile::read(file)
 }
 
 // Makes a file with a new store; refuses where there is one. One that cannot be written whole is removed.
 pub fn create(rt: &HostRuntime, path: &str) -> Result<(), Problem> {
-    let mut file = File::create_new(rt, path)?;
-    let written = write_new(&mut file);
+    let mut file = match File::create_new(rt, path) {
+        Ok(file) => file,
+        Err(error) if error.kind() == ErrorKind::AlreadyExists => return Err(Problem::Exists),
+        Err(error) => return Err(Problem::Io(error)),
+    };
+    let written = write_new(rt, path, &mut file);
     if written.is_err() {
         let _ = fs::remove_file(rt, path);
     }
-    written
+    Ok(written?)
 }
 
-fn write_new(file: &mut File) -> Result<(), Problem> {
+fn write_new(rt: &HostRuntime, path: &str, file: &mut File) -> io::Result<()> {
     file.write_all(&new_store())?;
-    Ok(file.sync_all()?)
+    file.sync_all()?;
+    sync_folder(rt, path)
+}
+
+// Makes the name of a file durable: where it were lost with the power, a new store could be made in its place.
+fn sync_folder(rt: &HostRuntime, path: &str) -> io::Result<()> {
+    let folder = match Path::new(path).parent() {
+        Some(folder) if !folder.as_str().is_empty() => folder.as_str(),
+        _ => ".",
+    };
+    File::open(rt, folder)?.sync_all()
 }

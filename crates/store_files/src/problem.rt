@@ -11,6 +11,8 @@ use std::{fmt, io};
 pub enum Problem {
     // The lock beside the file is there: its path.
     Locked(String),
+    // A new store was asked for, and there is such a file.
+    Exists,
     // Another process has the file open, though its lock is gone.
     Open,
     // The file has so many bytes, which are not sixteen.
@@ -55,6 +57,7 @@ impl fmt::Display for Problem {
                 f,
                 "{lock} is there: another run has the store, or one that was cut off left its lock"
             ),
+            Problem::Exists => f.write_str("there is such a file"),
             Problem::Open => f.write_str("another run has the store, though its lock is gone"),
             Problem::Length(bytes) => write!(f, "a store has 16 bytes, and this file has {bytes}"),
             Problem::StandardStream => f.write_str("a standard stream is closed"),

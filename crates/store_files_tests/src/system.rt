@@ -16,7 +16,7 @@ fn a_new_store_is_made_once(rt: HostRuntime) -> Result<(), Fail> {
     assert_eq!(rt; fs::read(&rt, path.as_str())?.as_slice(), NEW);
     fs::write(&rt, path.as_str(), b"kept".as_slice())?;
     assert!(rt;
-        matches!(create(&rt, &path), Err(Problem::Io(error)) if error.kind() == std::io::ErrorKind::AlreadyExists)
+        matches!(create(&rt, &path), Err(Problem::Exists))
     );
     assert_eq!(rt;
         fs::read(&rt, path.as_str())?.as_slice(),
