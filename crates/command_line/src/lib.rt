@@ -6,4 +6,4 @@ mod help;
 mod serving;
 
 pub use arguments::{Invocation, read_arguments};
-pub use serving::start;
+pub use serving::{make_file, run_in_file, start};

@@ -1,52 +1,69 @@
 // What the program does for each way of asking for it.
+ghost use Rattle.std.specs.Prelude.{OnOk};
+ghost use Rattle.command_line.specs.Serving.{RanWell};
+
 use crate::arguments::{Invocation, read_arguments};
 use crate::help::HELP;
 use durable::OnDisk;
 use runs::{run, run_on_disk};
-use std::io::BufReader;
+use std::io::{BufRead, BufReader, Stdin, Write};
 use std::process::ExitCode;
 use std::{env, io, process};
 use store_files::{Lock, Problem, create, open};
 
-// A run on the store in that file, from the standard input to the standard output. Who calls this has the lock.
-fn run_locked(rt: &HostRuntime, path: &str) -> Result<(), Problem> {
+// A run on the store in a file. Who calls this has the lock.
+fn run_locked<R: BufRead + Drop, W: Write>(
+    rt: &HostRuntime,
+    path: &str,
+    reader: R,
+    writer: &mut W,
+) -> Result<(), Problem>
+    ensures { OnOk result (RanWell (R.remaining reader) (W.contents writer.old) (W.contents writer.new)) }
+{
     let mut store = OnDisk::new(open(rt, path)?)?;
-    let reader = BufReader::new(rt.alloc(), rt.stdin())?;
-    run_on_disk(rt.alloc(), &mut store, reader, &mut rt.stdout())?;
+    run_on_disk(rt.alloc(), &mut store, reader, writer)?;
     match store.disk().failure() {
         Some(error) => Err(Problem::Io(error)),
         None => Ok(()),
     }
 }
 
-// Which work is done under the lock.
-#[derive(Clone, Copy)]
-enum Work {
-    Run,
-    Create,
+// The same while no other run has the store.
+pub fn run_in_file<R: BufRead + Drop, W: Write>(
+    rt: &HostRuntime,
+    path: &str,
+    reader: R,
+    writer: &mut W,
+) -> Result<(), Problem>
+    ensures { OnOk result (RanWell (R.remaining reader) (W.contents writer.old) (W.contents writer.new)) }
+{
+    let lock = Lock::take(rt, path, process::id(rt.process()))?;
+    let ran = run_locked(rt, path, reader, writer);
+    let released = lock.release(rt);
+    ran?;
+    released
 }
 
-// Does it while no other run has the store.
-fn with_lock(rt: &HostRuntime, path: &str, work: Work) -> Result<(), Problem> {
+// Makes a file with a new store, while no other run has it.
+pub fn make_file(rt: &HostRuntime, path: &str) -> Result<(), Problem> {
     let lock = Lock::take(rt, path, process::id(rt.process()))?;
-    let done = match work {
-        Work::Run => run_locked(rt, path),
-        Work::Create => create(rt, path),
-    };
+    let made = create(rt, path);
     let released = lock.release(rt);
-    done?;
+    made?;
     released
+}
+
+// The standard input, read line by line.
+fn input(rt: &HostRuntime) -> io::Result<BufReader<Stdin>> {
+    Ok(BufReader::new(rt.alloc(), rt.stdin())?)
 }
 
 // Does what the program is asked for.
 fn serve(rt: &HostRuntime, invocation: &Invocation) -> Result<(), Problem> {
     match invocation {
-        Invocation::InMemory => {
-            let reader = BufReader::new(rt.alloc(), rt.stdin())?;
-            Ok(run(rt.alloc(), reader, &mut rt.stdout())?)
-        }
-        Invocation::InFile(path) => with_lock(rt, path, Work::Run),
-        Invocation::New(path) => with_lock(rt, path, Work::Create),
+        Invocation::InMemory => Ok(run(rt.alloc(), input(rt)?, &mut rt.stdout())?),
+        Invocation::InFile(path) => run_in_file(rt, path, input(rt)?, &mut rt.stdout()),
+        Invocation::New(path) => make_file(rt, path),
         Invocation::Help => Ok(print!(rt; "{HELP}")?),
     }
 }
