@@ -132,32 +132,38 @@ fn compare_failure(rt: &impl Abort, heap: Global, store: [u32; 4], failure: Fail
     compare_reader(rt, heap, key, memory.found(true), given);
 }
 
-#[test]
-fn every_call_fails(rt: HostRuntime) {
-    for store in STORES {
-        for (call, waits) in FAILURES {
-            let failure = Failure {
-                call: *call,
-                waits: *waits,
-            };
-            compare_failure(&rt, rt.alloc(), *store, failure);
-        }
+fn compare_failures(rt: &impl Abort, heap: Global, store: [u32; 4]) {
+    for (call, waits) in FAILURES {
+        let failure = Failure {
+            call: *call,
+            waits: *waits,
+        };
+        compare_failure(rt, heap, store, failure);
     }
 }
 
-// A keeper that failed keeps nothing more, for whichever store, and no number by itself.
+#[test]
+fn every_call_fails(rt: HostRuntime) {
+    for store in STORES {
+        compare_failures(&rt, rt.alloc(), *store);
+    }
+}
+
+// A keeper that failed keeps no number, and so gives no key, for whichever store.
 fn compare_failed(rt: &impl Abort, keeper: &mut OnDisk<SimulatedDisk<'_>>) {
     for store in STORES {
         let mut left = *store;
         let done = reserve_in(LEVELS, &mut KeptCells::new(&mut left, u64::MAX, keeper));
         assert_eq!(rt; (done, left), (Done::Cut, *store));
-    }
-    for place in 0..4 {
-        assert!(rt; keeper.keep(place, 3).is_err());
+        assert!(rt; keeper.keep(0, 3).is_err());
     }
 }
 
-fn compare_after(rt: &impl Abort, heap: Global, store: [u32; 4], failure: Failure, call: usize) {
+fn compare_after(rt: &impl Abort, heap: Global, store: [u32; 4], call: usize, waits: bool) {
+    let failure = Failure {
+        call: Some(call),
+        waits,
+    };
     let mut memory = Memory::holding(heap, store, failure);
     let mut left = store;
     if let Ok(mut keeper) = OnDisk::new(SimulatedDisk {
@@ -176,18 +182,18 @@ fn compare_after(rt: &impl Abort, heap: Global, store: [u32; 4], failure: Failur
     );
 }
 
+fn compare_closed(rt: &impl Abort, heap: Global, store: [u32; 4]) {
+    for (call, waits) in FAILURES {
+        if let Some(call) = call {
+            compare_after(rt, heap, store, *call, *waits);
+        }
+    }
+}
+
 #[test]
 fn nothing_is_asked_after_a_failure(rt: HostRuntime) {
     for store in STORES {
-        for (call, waits) in FAILURES {
-            let failure = Failure {
-                call: *call,
-                waits: *waits,
-            };
-            if let Some(call) = failure.call {
-                compare_after(&rt, rt.alloc(), *store, failure, call);
-            }
-        }
+        compare_closed(&rt, rt.alloc(), *store);
     }
 }
 

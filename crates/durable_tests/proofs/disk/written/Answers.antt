@@ -1,7 +1,6 @@
 -- One write more of those that are left; one with no such place changes nothing.
-use Rattle.std.proofs.Common.{rules, ◌≡◌, ℕ, ◌+◌, List, length, drop, sym, ap, ◌∙◌, arith}
+use Rattle.std.proofs.Common.{rules, ℕ, ◌+◌, List, length, drop, sym, ap, ◌∙◌}
 use Rattle.std.proofs.lemmas.List.{at_drop_more, length-set, set_past}
-use Rattle.std.proofs.lemmas.Bool.Decides.{nat_tests}
 use Rattle.counter.specs.Cells.{left_by}
 use Rattle.counter.specs.declared.write.Write.{Write}
 use Rattle.durable_tests.proofs.disk.written.Goals as goal
