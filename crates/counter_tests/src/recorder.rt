@@ -1,5 +1,6 @@
 // A device that keeps each write that is made to it, and fails where it is told to: what a driver sees of a reserved key.
-ghost use Rattle.std.specs.Prelude.{◌≡◌, None};
+ghost use Rattle.std.specs.Prelude.{◌≡◌, ◌-◌, false, [], length};
+ghost use Rattle.counter.specs.Cells.{still};
 
 use counter::{Cells, Done, NotWritten, Write, reserve_in};
 use std::alloc::{AllocError, Global};
@@ -15,14 +16,18 @@ struct Recorder {
 }
 
 impl Cells for Recorder {
+    // It fails where it is told to, and where memory does.
+    ghost sure = { false };
+
     ghost held = { λ r. r.numbers.items };
 
     ghost writes = { λ r. r.made.items };
 
-    // Nobody is told when it fails.
-    ghost lasts = { λ _. None };
+    ghost lasts = { λ r. r.lasts - length r.made.items };
 
-    ghost loan = { λ _. 0 };
+    ghost disk = { λ r. still r.numbers.items };
+
+    ghost loans = { λ _. [] };
 
     fn numbers(&self) -> &[u32] {
         &self.numbers

@@ -1,0 +1,2 @@
+-- The definition that a contract of this crate cites.
+pub mod Simulated
