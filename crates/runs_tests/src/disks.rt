@@ -1,11 +1,11 @@
 // Runs on a store that lies on a disk of which one call fails, each call in turn: what is printed, and which key comes next where another run begins with what is found.
-ghost use Rattle.std.specs.Prelude.{◌≡◌};
+ghost use Rattle.std.specs.Prelude.{◌≡◌, false};
 ghost use Rattle.std.specs.Option.{option_to_list};
 ghost use Rattle.counter.specs.Cells.{left_by};
 
 use counter::{NotWritten, Write};
 use durable::{Disk, OnDisk};
-use runs::run_on;
+use runs::run_on_disk;
 use std::alloc::{AllocError, Global};
 use std::process::Abort;
 use std::str::from_utf8;
@@ -55,7 +55,13 @@ struct LentMedium<'a> {
 }
 
 impl<'a> Disk for LentMedium<'a> {
+    ghost sure = { false };
+
     ghost state = { λ d. record { settled = d.medium.now.numbers; pending = option_to_list d.medium.now.waiting } };
+
+    fn numbers(&self) -> &[u32] {
+        &self.medium.numbers
+    }
 
     // A call that fails asks for the write all the same.
     fn put(&mut self, place: usize, value: u32) -> Result<(), NotWritten> {
@@ -75,10 +81,9 @@ impl<'a> Disk for LentMedium<'a> {
 
 // What is printed in a run that begins with what is found; nothing where the disk fails before.
 fn run_from(heap: Global, medium: &mut Medium, typed: &str) -> Result<Vec<u8>, Fail> {
-    let store = Vec::from_slice(heap, &medium.numbers)?;
     let mut output = Vec::new(heap);
     if let Ok(mut keeper) = OnDisk::new(LentMedium { medium }) {
-        run_on(heap, store, &mut keeper, typed.as_bytes(), &mut output)?;
+        run_on_disk(heap, &mut keeper, typed.as_bytes(), &mut output)?;
     }
     Ok(output)
 }

@@ -1,7 +1,7 @@
 // A file that takes few bytes at a time, and of which one call fails.
 use crate::folder::{new_folder, path_in};
 use counter::{Done, LentCells, reserve_in};
-use durable::OnDisk;
+use durable::{Disk, OnDisk};
 use std::cell::Cell;
 use std::fs::{File, Metadata, OpenFile, OpenOptions};
 use std::io::ErrorKind;

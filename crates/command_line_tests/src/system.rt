@@ -1,7 +1,7 @@
 // Files of the system: a new store, its lock, what is no store, and keys that are reserved in a file.
 use crate::folder::{new_folder, path_in};
 use counter::{Done, LentCells, reserve_in};
-use durable::OnDisk;
+use durable::{Disk, OnDisk};
 use std::fs;
 use std::test::Fail;
 use store_files::{Lock, Problem, create, open};
@@ -15,9 +15,7 @@ fn a_new_store_is_made_once(rt: HostRuntime) -> Result<(), Fail> {
     assert!(rt; create(&rt, &path).is_ok());
     assert_eq!(rt; fs::read(&rt, path.as_str())?.as_slice(), NEW);
     fs::write(&rt, path.as_str(), b"kept".as_slice())?;
-    assert!(rt;
-        matches!(create(&rt, &path), Err(Problem::Exists))
-    );
+    assert!(rt; matches!(create(&rt, &path), Err(Problem::Exists)));
     assert_eq!(rt;
         fs::read(&rt, path.as_str())?.as_slice(),
         b"kept".as_slice()
