@@ -1,5 +1,5 @@
 // Runs on a store that lies on a disk of which one call fails, each call in turn: what is printed, and which key comes next where another run begins with what is found.
-ghost use Rattle.std.specs.Prelude.{◌≡◌};
+ghost use Rattle.std.specs.Prelude.{◌≡◌, []};
 ghost use Rattle.std.specs.Option.{option_to_list};
 ghost use Rattle.counter.specs.Cells.{left_by};
 
