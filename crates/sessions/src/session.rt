@@ -1,5 +1,5 @@
 // What the lines of the program ask, on values: the store, which a keeper may keep beyond the process, the signer and its bits, for how many writes power lasts, and what is signed and looked at with them.
-ghost use Rattle.std.specs.Prelude.{◌≡◌, ℕ, true, false, ◌⊎◌, None, IfOk, string_bytes, Result, MatchResult};
+ghost use Rattle.std.specs.Prelude.{◌≡◌, ℕ, true, false, ◌⊎◌, None, IfOk, length, string_bytes, Result, MatchResult};
 ghost use Rattle.hash.specs.Value.{value_of};
 ghost use Rattle.sha256.specs.Rows.{row_hash};
 ghost use Rattle.keys.specs.Refusals.{tree_refusal, Unless};
@@ -35,6 +35,29 @@ pub struct Session {
     // For how many writes power lasts at the next `sign`; `None`: it lasts.
     power: Option<u64>,
     room: SignatureRoom,
+}
+
+// Signs over a store that a keeper keeps. A function of its own, since what a struct of two loans leaves is seen only by who lends it both.
+fn sign_kept<H: RowHasher, K: Keeper>(
+    signer: &Signer,
+    bits: &[bool],
+    store: &mut [u32],
+    lasts: u64,
+    keeper: &mut K,
+    room: &mut SignatureRoom,
+) -> Done
+    ensures done { ForPower K.IN_MEMORY lasts (λ w. (result ≡ answer signer.now.levels store.old (length bits.now) w) × (store.new ≡ stored signer.now.levels store.old (length bits.now) w)) }
+    ensures counts { Counts store.old result store.new }
+    ensures room { RoomSays H.mix (value_of signer.now.seed) signer.now.levels bits.now result room.old room.new }
+    ensures accepted { GivenAccepted H.mix (value_of signer.now.seed) signer.now.levels bits.now result room.new }
+    ensures in_step { K.IN_MEMORY ≡ false → InStep (K.state keeper.old) store.old → InStep (K.state keeper.new) store.new }
+{
+    sign_in::<H, KeptCells<'_, K>>(
+        signer,
+        bits,
+        &mut KeptCells::new(store, lasts, keeper),
+        room,
+    )
 }
 
 impl Session {
@@ -89,8 +112,15 @@ impl Session {
         let bits = text_bits::<H>(heap, text, self.tree.bits)?;
         let lasts = self.power.unwrap_or(u64::MAX);
         self.power = None;
-        let mut cells = KeptCells::new(&mut self.store, lasts, keeper);
-        Ok(sign_in::<H, KeptCells<'_, K>>(&self.tree.signer, &bits, &mut cells, &mut self.room))
+        let signer = &self.tree.signer;
+        Ok(sign_kept::<H, K>(
+            signer,
+            &bits,
+            &mut self.store,
+            lasts,
+            keeper,
+            &mut self.room,
+        ))
     }
 
     // Looks at a signature of a text. If it is accepted, then of every signer whose root this is it is that signer's own, or two rows are shown that hash to the same.
