@@ -42,8 +42,8 @@ impl Medium {
             return;
         };
         self.waiting = None;
-        if let Some(number) = self.numbers.get_mut(write.place) {
-            *number = write.value;
+        if write.place < 4 {
+            self.numbers[write.place] = write.value;
         }
     }
 }
