@@ -1,5 +1,5 @@
 -- What writers take, one write after the other.
-use Rattle.std.proofs.Common.{◌≡◌, ℕ, zero, suc, inl, inr, List, [], ◌++◌, take, None, Some, Ok, Err, Option, Result, IsErr, OnOk, MatchResult, sym, refl, ap, ◌∙◌, subst, append_assoc, append-nil}
+use Rattle.std.proofs.Common.{◌≡◌, ℕ, zero, suc, inl, inr, List, [], ◌++◌, take, None, Some, Ok, Err, Option, Result, IsErr, OnOk, sym, refl, ap, ◌∙◌, subst, append_assoc, append-nil}
 use Rattle.std.specs.Io.KnownBytes.{Appends, Keeps, WriteAppends}
 use Rattle.runs.specs.Runs.{Gone, AppendsFront}
 
@@ -39,12 +39,3 @@ gone_taken i z a b bytes (Err e) k p (inr (other, g)) = absurd cc
 pub err_of : {T E : Type 0} (P : Type 0) (r : Result T E) → IsErr r → OnOk r P
 err_of P (Ok x) e = absurd cc
 err_of P (Err x) e = tt
-
--- what failed says what an answer says that failed
-pub at_err : {T E : Type 0} (P : T → Type 0) (Q : Type 0) (r : Result T E) → IsErr r → Q → MatchResult r P (λ _. Q)
-at_err P Q (Ok x) e q = absurd cc
-at_err P Q (Err x) e q = q
-
-pub err_said : {T E : Type 0} (P : T → Type 0) (Q : Type 0) (r : Result T E) (e : E) → r ≡ Err e → MatchResult r P (λ _. Q) → Q
-err_said P Q (Ok x) e is said = absurd cc
-err_said P Q (Err x) e is said = said

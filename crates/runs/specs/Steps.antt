@@ -76,7 +76,7 @@ pub record Finished (b : Bool) (p : Program) (printed : Option (List ℕ)) (p₁
   pub ends : TurnEnds b p printed p₁
 
 -- memory failed in a turn of these lines: all is as it was, or as memory that fails leaves it in the command that the first line is, so that of a `sign` line alone a key may have been reserved
-abbrev pub FailedAt : (in_memory : Bool) → List (List ℕ) → Session → Session → Type 0
+unfoldable pub FailedAt : (in_memory : Bool) → List (List ℕ) → Session → Session → Type 0
 FailedAt b lines s s₁ =
     Unchanged s s₁
     ⊎ ((line : List ℕ) × (behind : List (List ℕ)) × (c : Command) × (r : Session) × (lines ≡ line ∷ behind) × Readable b line c × FewerWrites b c s r × Failed r c s₁)

@@ -31,6 +31,7 @@ impl Program {
     }
 
     // Takes a line, and gives the text to print, if there is one; the keeper keeps what is written to the store. The lines of a `look` wait until all of them are there. Where memory fails the line is not taken.
+    #[tactic(auto, unfolding(crate::specs::Steps::FailedAt))]
     pub fn step<K: Keeper>(
         &mut self,
         heap: Global,

@@ -43,6 +43,7 @@ fn read_line(heap: Global, line: &[u8], in_memory: bool) -> Result<Option<Comman
 }
 
 // Does what the lines of a turn ask, the first of which has that number, and gives the text that answers it, if one does. No line asks nothing.
+#[tactic(auto, unfolding(crate::specs::Steps::FailedAt))]
 pub fn turn<K: Keeper>(
     session: &mut Session,
     heap: Global,

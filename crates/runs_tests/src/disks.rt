@@ -1,5 +1,5 @@
 // Runs on a store that lies on a disk of which one call fails, each call in turn: what is printed, and which key comes next where another run begins with what is found.
-ghost use Rattle.std.specs.Prelude.{◌≡◌, false};
+ghost use Rattle.std.specs.Prelude.{◌≡◌, false, []};
 ghost use Rattle.std.specs.Option.{option_to_list};
 ghost use Rattle.counter.specs.Cells.{left_by};
 
@@ -42,8 +42,8 @@ impl Medium {
             return;
         };
         self.waiting = None;
-        if let Some(number) = self.numbers.get_mut(write.place) {
-            *number = write.value;
+        if write.place < 4 {
+            self.numbers[write.place] = write.value;
         }
     }
 }

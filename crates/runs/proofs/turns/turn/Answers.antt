@@ -24,6 +24,7 @@ Says q c four s₁ r = MatchResult r (λ o. Executed q c s₁ × Answered row_ha
 commanded : (P : Type 0) (r : Result (Option (String Global)) AllocError) (b : Bool) (n : ℕ) (s q s₁ : Session) (lines : List (List ℕ)) (line : List ℕ) (behind : List (List ℕ)) (c : Command) (four : SignatureLines) →
     lines ≡ line ∷ behind → Readable b line c → LinesAre four (line_after n 1) behind → FewerWrites b c s q → Says q c four s₁ r →
     MatchResult r (λ o. P → Turned b n s (record { typed = lines; printed = option_map string_bytes o }) s₁) (λ _. FailedAt b lines s s₁)
+unfolding FailedAt
 commanded P (Ok o) b n s q s₁ lines line behind c four e sp are few done = λ _. (line, behind, e, inl (c, four, o, q, few, sp, are, done.0, done.1, refl))
 commanded P (Err x) b n s q s₁ lines line behind c four e sp are few done = inr (line, behind, c, q, e, sp, few, done)
 
