@@ -104,7 +104,7 @@ def judge(part, what, run):
     hold(set(run.answers[cut:]) <= {"cut"} and not run.rest, "%s: %s, rest %s" % (what, run.told(), run.rest[:40]))
     hold(run.keys == list(range(first, first + len(run.keys))), "%s: key %d was next, and %s came" % (what, first, run.told()))
     hold(after is not None and first + len(run.keys) <= after <= first + len(run.keys) + 1, "%s: the next key is %s after %d and %s" % (what, after, first, run.told()))
-    hold(run.status == 0 or run.status == 1 and run.said, "%s: %s, %s" % (what, run.told(), run.said))
+    hold(run.status == (1 if "cut" in run.answers else run.status) and bool(run.said) == (run.status == 1), "%s: %s, %s" % (what, run.told(), run.said))
     hold(not os.path.exists(office.lock), "%s: a lock is left" % what)
     count(part, "%s: %s" % (what, run.told()))
     if after is not None:

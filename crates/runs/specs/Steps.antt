@@ -1,5 +1,5 @@
 -- What one line does to the program, what the end of the input does, and what a turn is, where the store is in memory alone and where it lies on a disk. The hash is SHA-256. Assumes nothing: these are definitions.
-use Rattle.std.specs.Prelude.{◌≡◌, ℕ, ◌<◌, Bool, true, false, ◌⊎◌, List, [], ◌∷◌, ◌++◌, map, length, Some, None, vec_items, string_bytes, Option, String}
+use Rattle.std.specs.Prelude.{◌≡◌, ℕ, ◌<◌, Bool, true, false, ◌⊎◌, List, [], ◌∷◌, ◌++◌, map, length, codes, Some, None, vec_items, string_bytes, Option, String, Vec}
 use Rattle.std.specs.Option.{option_map}
 use Rattle.std.specs.declared.alloc.Global.{Global}
 use Rattle.hash.specs.Value.{value_of}
@@ -11,9 +11,9 @@ use Rattle.counter.specs.Reserving.{KeepsCount, InStep}
 use Rattle.texts.specs.Commands.{Spelled}
 use Rattle.texts.specs.SignatureLines.{line_after, LinesAre}
 use Rattle.texts.specs.declared.command.Command.{Command}
-use Rattle.texts.specs.declared.command.Command.TheVariants.{Store}
+use Rattle.texts.specs.declared.command.Command.TheVariants.{Store, Sign}
 use Rattle.texts.specs.declared.signature.SignatureLines.{SignatureLines}
-use Rattle.sessions.specs.Sessions.{Unchanged, FewerWrites, Executed, Failed, Answered}
+use Rattle.sessions.specs.Sessions.{Unchanged, AfterSign, FewerWrites, Executed, Answered}
 use Rattle.sessions.specs.declared.session.Session.{Session}
 use Rattle.runs.specs.Turns.{whole, Turn}
 use Rattle.runs.specs.declared.program.Program.{Program}
@@ -75,11 +75,11 @@ pub record Finished (b : Bool) (p : Program) (printed : Option (List ℕ)) (p₁
   pub nothing : taken p ≡ [] → (printed ≡ None) × (p₁ ≡ p)
   pub ends : TurnEnds b p printed p₁
 
--- memory failed in a turn of these lines: all is as it was, or as memory that fails leaves it in the command that the first line is, so that of a `sign` line alone a key may have been reserved
+-- memory failed in a turn of these lines: all is as it was, but of a `sign` line a key may have been reserved, and then power lasts
 unfoldable pub FailedAt : (in_memory : Bool) → List (List ℕ) → Session → Session → Type 0
 FailedAt b lines s s₁ =
     Unchanged s s₁
-    ⊎ ((line : List ℕ) × (behind : List (List ℕ)) × (c : Command) × (r : Session) × (lines ≡ line ∷ behind) × Readable b line c × FewerWrites b c s r × Failed r c s₁)
+    ⊎ ((text : Vec ℕ Global) × (behind : List (List ℕ)) × (r : Session) × (lines ≡ (codes "sign " ++ vec_items text) ∷ behind) × FewerWrites b (Sign text) s r × AfterSign r s₁)
 
 -- memory failed while these lines were to be a turn: what was taken and the number are as they were
 abbrev pub Kept : (in_memory : Bool) → List (List ℕ) → (before after : Program) → Type 0

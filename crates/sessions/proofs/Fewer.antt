@@ -33,8 +33,8 @@ pub executed : (b : Bool) (h : Mix) (s s₁ : Session) (c : Command) (t : Signat
     (r : Session) × FewerWrites b c s r × (Executed r c s₁ × Answered h r c t o × Promised h r c t o)
 executed b h s s₁ c t o e a = (s, itself b c s, (e, a, promised h s c t o a))
 
-pub answered : (b : Bool) (h : Mix) (s s₁ : Session) (c : Command) (t : SignatureLines) (x : Result (Option (String Global)) AllocError) → MatchResult x (λ _. Executed s c s₁) (λ _. Failed s c s₁) → IfOk x (λ o. Answered h s c t o) →
-    (r : Session) × FewerWrites b c s r × MatchResult x (λ o. Executed r c s₁ × Answered h r c t o × Promised h r c t o) (λ _. Failed r c s₁)
+pub answered : (b : Bool) (h : Mix) (s s₁ : Session) (c : Command) (t : SignatureLines) (x : Result (Option (String Global)) AllocError) → MatchResult x (λ _. Executed s c s₁) (λ _. Failed s s c s₁) → IfOk x (λ o. Answered h s c t o) →
+    (r : Session) × FewerWrites b c s r × MatchResult x (λ o. Executed r c s₁ × Answered h r c t o × Promised h r c t o) (λ _. Failed s r c s₁)
 answered b h s s₁ c t (Ok o) e a = executed b h s s₁ c t o e a
 answered b h s s₁ c t (Err x) f a = (s, itself b c s, f)
 
@@ -77,7 +77,7 @@ sign_answered b h s s₁ c v t z d text e f said room (w, few, all, signs) tree 
 -- where memory fails behind it, what it leaves is left
 pub sign_left : (b : Bool) (h : Mix) (s s₁ : Session) (c : Command) (v : Vec ℕ Global) (t : SignatureLines) (x : Result (Option (String Global)) AllocError) (d : Done) (y : AllocError) → c ≡ Sign v → x ≡ Err y →
     Signs b s d (vec_items s₁.store) → s₁.tree ≡ s.tree → s₁.power ≡ None →
-    (r : Session) × FewerWrites b c s r × MatchResult x (λ o. Executed r c s₁ × Answered h r c t o × Promised h r c t o) (λ _. Failed r c s₁)
+    (r : Session) × FewerWrites b c s r × MatchResult x (λ o. Executed r c s₁ × Answered h r c t o × Promised h r c t o) (λ _. Failed s r c s₁)
 sign_left b h s s₁ c v t x d y e f (w, few, all, signs) tree none =
-    let whole = with_power b s v (λ r. Failed r (Sign v) s₁) w few all (λ p q. inr ((at_session s d (vec_items s₁.store) w p q signs).1, tree, none)) in
+    let whole = with_power b s v (λ r. Failed s r (Sign v) s₁) w few all (λ p q. inr ((at_session s d (vec_items s₁.store) w p q signs).1, tree, none)) in
     rw (e, f) whole

@@ -58,10 +58,10 @@ Executed s (Power k) s₁ = Has s₁ (vec_items s.store) s.tree (Some k)
 Executed s (Sign t) s₁ = AfterSign s s₁
 Executed s c s₁ = Unchanged s s₁
 
--- what a command leaves where memory fails: all is as it was, or, of a `sign` alone, what it leaves otherwise, so a key that was reserved stays so
-abbrev pub Failed : Session → Command → Session → Type 0
-Failed s (Sign t) s₁ = Unchanged s s₁ ⊎ AfterSign s s₁
-Failed s c s₁ = Unchanged s s₁
+-- what a command leaves where memory fails: all is as it was, or, of a `sign` alone, what it leaves otherwise, with the power that r has, so a key that was reserved stays so
+abbrev pub Failed : (s r : Session) → Command → Session → Type 0
+Failed s r (Sign t) s₁ = Unchanged s s₁ ⊎ AfterSign r s₁
+Failed s r c s₁ = Unchanged s s₁
 
 -- no command but `store` puts the count back, whatever it is answered, and also where memory fails: a sound store stays sound, and its next key never gets smaller
 abbrev pub Counted : Session → Command → Session → Type 0

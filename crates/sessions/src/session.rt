@@ -142,7 +142,7 @@ impl Session {
         lines: &SignatureLines<'_>,
         keeper: &mut K,
     ) -> Result<Option<String>, AllocError>
-        ensures done { (r : Session) × FewerWrites K.IN_MEMORY command self.old r × MatchResult result (λ o. Executed r command self.new × Answered row_hash r command lines.now o × PromisedStrings r command lines.now o) (λ _. Failed r command self.new) }
+        ensures done { (r : Session) × FewerWrites K.IN_MEMORY command self.old r × MatchResult result (λ o. Executed r command self.new × Answered row_hash r command lines.now o × PromisedStrings r command lines.now o) (λ _. Failed self.old r command self.new) }
         ensures counts { Counted self.old command self.new }
         ensures in_step { StaysInStep K.IN_MEMORY command (K.state keeper.old) self.old (K.state keeper.new) self.new }
     {
@@ -157,7 +157,7 @@ impl Session {
         lines: &SignatureLines<'_>,
         keeper: &mut K,
     ) -> Result<Option<String>, AllocError>
-        ensures done { (r : Session) × FewerWrites K.IN_MEMORY command self.old r × MatchResult result (λ o. Executed r command self.new × Answered H.mix r command lines.now o × Promised H.mix r command lines.now o) (λ _. Failed r command self.new) }
+        ensures done { (r : Session) × FewerWrites K.IN_MEMORY command self.old r × MatchResult result (λ o. Executed r command self.new × Answered H.mix r command lines.now o × Promised H.mix r command lines.now o) (λ _. Failed self.old r command self.new) }
         ensures counts { Counted self.old command self.new }
         ensures in_step { StaysInStep K.IN_MEMORY command (K.state keeper.old) self.old (K.state keeper.new) self.new }
     {

@@ -9,7 +9,7 @@ use Rattle.sha256.specs.Rows.{row_hash}
 use Rattle.counter.specs.Cells.{DiskState}
 use Rattle.texts.specs.SignatureLines.{line_after, LinesAre}
 use Rattle.texts.specs.declared.command.Command.{Command}
-use Rattle.texts.specs.declared.command.Command.TheVariants.{Store}
+use Rattle.texts.specs.declared.command.Command.TheVariants.{Store, Sign}
 use Rattle.texts.specs.declared.signature.SignatureLines.{SignatureLines}
 use Rattle.sessions.specs.Sessions.{FewerWrites, Executed, Failed, Counted, StaysInStep, Answered, PromisedStrings}
 use Rattle.sessions.specs.declared.session.Session.{Session}
@@ -17,16 +17,22 @@ use Rattle.runs.specs.Steps.{Readable, Turned, FailedAt, KeptInStep}
 use Rattle.runs.proofs.turns.turn.Goals as goal
 
 -- what `execute` says of a command in one session, where it was executed or memory failed
-abbrev Says : Session → Command → SignatureLines → Session → Result (Option (String Global)) AllocError → Type 0
-Says q c four s₁ r = MatchResult r (λ o. Executed q c s₁ × Answered row_hash q c four o × PromisedStrings q c four o) (λ _. Failed q c s₁)
+abbrev Says : (s q : Session) → Command → SignatureLines → Session → Result (Option (String Global)) AllocError → Type 0
+Says s q c four s₁ r = MatchResult r (λ o. Executed q c s₁ × Answered row_hash q c four o × PromisedStrings q c four o) (λ _. Failed s q c s₁)
+
+-- memory failed in a command that the first line is
+failed : (b : Bool) (s q s₁ : Session) (lines : List (List ℕ)) (line : List ℕ) (behind : List (List ℕ)) (c : Command) → lines ≡ line ∷ behind → Readable b line c → FewerWrites b c s q → Failed s q c s₁ → FailedAt b lines s s₁
+unfolding FailedAt
+failed b s q s₁ lines line behind (Sign t) e sp few (inl same) = inl same
+failed b s q s₁ lines line behind (Sign t) e sp few (inr after) = inr (t, behind, q, e ∙ ap (λ (l : List ℕ). l ∷ behind) sp.1, few, after)
+failed b s q s₁ lines line behind c e sp few same = inl same
 
 -- a command that was executed, or in which memory failed
 commanded : (P : Type 0) (r : Result (Option (String Global)) AllocError) (b : Bool) (n : ℕ) (s q s₁ : Session) (lines : List (List ℕ)) (line : List ℕ) (behind : List (List ℕ)) (c : Command) (four : SignatureLines) →
-    lines ≡ line ∷ behind → Readable b line c → LinesAre four (line_after n 1) behind → FewerWrites b c s q → Says q c four s₁ r →
+    lines ≡ line ∷ behind → Readable b line c → LinesAre four (line_after n 1) behind → FewerWrites b c s q → Says s q c four s₁ r →
     MatchResult r (λ o. P → Turned b n s (record { typed = lines; printed = option_map string_bytes o }) s₁) (λ _. FailedAt b lines s s₁)
-unfolding FailedAt
 commanded P (Ok o) b n s q s₁ lines line behind c four e sp are few done = λ _. (line, behind, e, inl (c, four, o, q, few, sp, are, done.0, done.1, refl))
-commanded P (Err x) b n s q s₁ lines line behind c four e sp are few done = inr (line, behind, c, q, e, sp, few, done)
+commanded P (Err x) b n s q s₁ lines line behind c four e sp are few done = failed b s q s₁ lines line behind c e sp few done
 
 -- a command that can be read on a disk is no `store`
 stays : (b : Bool) (c : Command) (line : List ℕ) (d d₁ : DiskState) (s s₁ : Session) → Readable b line c → Counted s c s₁ → StaysInStep b c d s d₁ s₁ → KeptInStep b d (vec_items s.store) d₁ (vec_items s₁.store)
