@@ -20,7 +20,7 @@ IsIo p = ⊥
 -- what is said; of an error of the system the library says it
 abbrev pub problem_spelled : Problem → Option (List ℕ)
 problem_spelled (Locked path) = Some (string_bytes path ++ codes " is there: another run has the store, or one that was cut off left its lock")
-problem_spelled Exists = Some (codes "there is such a file")
+problem_spelled Exists = Some (codes "there is such a file already")
 problem_spelled Open = Some (codes "another run has the store, though its lock is gone")
 problem_spelled (Length n) = Some (codes "a store has 16 bytes, and this file has " ++ decimal n)
 problem_spelled StandardStream = Some (codes "a standard stream is closed")

@@ -57,7 +57,7 @@ impl fmt::Display for Problem {
                 f,
                 "{lock} is there: another run has the store, or one that was cut off left its lock"
             ),
-            Problem::Exists => f.write_str("there is such a file"),
+            Problem::Exists => f.write_str("there is such a file already"),
             Problem::Open => f.write_str("another run has the store, though its lock is gone"),
             Problem::Length(bytes) => write!(f, "a store has 16 bytes, and this file has {bytes}"),
             Problem::StandardStream => f.write_str("a standard stream is closed"),
