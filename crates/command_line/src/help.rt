@@ -11,7 +11,7 @@ kachumpe: signatures by one-time keys, and a count of the keys that were used
 A line, and what is printed for it:
   levels L bits N seed S   nothing: 2^L keys for N bits, all from the seed S
   root                     the root of their tree, in sixteens
-  sign TEXT                a signature (key, parts, others, path), or cut
+  sign TEXT                key, parts, others, path: a signature; cut; all given
   look ROOT TEXT           and a signature's four lines: accepted or no
   state, slot              the store; the slot of it that counts
   power K                  nothing: power for K writes at the next sign
