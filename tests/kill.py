@@ -20,7 +20,7 @@ import calls
 from on_file import NEW, Office, Run, count, counts, ended, faults, hold, later, reserved, verify
 
 KILLS, PAIRS = int(os.environ.get("KILLS", "2500")), int(os.environ.get("PAIRS", "200"))
-LEVELS, BITS = int(os.environ.get("LEVELS", "13")), int(os.environ.get("BITS", "8"))
+LEVELS, BITS = int(os.environ.get("LEVELS", "13")), int(os.environ.get("BITS", "4"))
 SIGNS = 3  # Signatures that a run which is killed is asked for.
 SOON = 0.0005  # Seconds within which a run is killed behind something that was seen.
 ENDS = ("killed before any output", "killed between", "killed behind all output", "ended by themselves before the kill")
