@@ -1,4 +1,4 @@
--- Writes to a store's cells, and the disk that may lie below them. Assumes nothing: these are definitions.
+-- Writes to a store's cells, and the disk that may lie below them. Assumes of a disk that it keeps what it acknowledged, and that a write which it did not acknowledge is there as a whole or not at all; of memory nothing.
 use Rattle.std.specs.Prelude.{◌≡◌, ℕ, ◌-◌, Bool, true, false, if◌then◌else◌, ◌⊎◌, List, [], ◌∷◌, slice_set}
 use Rattle.counter.specs.declared.write.Write.{Write}
 

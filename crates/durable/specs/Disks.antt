@@ -1,4 +1,4 @@
--- What a disk does when it is asked for a write, and when it makes durable what it was asked for. Assumes nothing: these are definitions.
+-- What a disk does when it is asked for a write, and when it makes durable what it was asked for. Assumes of it that it has made durable what it says it has.
 use Rattle.std.specs.Prelude.{ℕ, Bool, if◌then◌else◌, [], ◌∷◌, ◌++◌}
 use Rattle.counter.specs.Cells.{left_by, DiskState, still}
 
