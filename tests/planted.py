@@ -120,6 +120,9 @@ def tested(room, crate, file):
             for words in (["typed.py"], ["sessions.py", "300"]):
                 if subprocess.run(["python3", "tests/" + words[0]] + words[1:], cwd=room, stdout=subprocess.PIPE, stderr=subprocess.PIPE).returncode:
                     return "`tests/%s`" % words[0], ""
+            # As root, and with strace there.
+            if subprocess.run(["tests/kill.sh"], cwd=room, env=os.environ | {"KILLS": "20", "PAIRS": "5"}, stdout=subprocess.PIPE, stderr=subprocess.PIPE).returncode:
+                return "`tests/kill.sh`", ""
     return "nothing", ""
 
 
