@@ -1,5 +1,6 @@
 -- The lemmas of this crate.
 mod Carries
+pub mod Hexes
 pub mod Fronts
 pub mod Joined
 pub mod Lasts
