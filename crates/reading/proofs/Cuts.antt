@@ -1,14 +1,16 @@
 -- Words: where one ends, that a text is cut into them in one way only, and that numbers are written as words.
-use Rattle.std.proofs.Common.{◌≡◌, ℕ, zero, suc, ◌/◌, ◌%◌, ◌<◌, ◌⊎◌, true, List, [], ◌∷◌, ◌++◌, length, get_or, take, drop, Some, sym, refl, ap, ◌∙◌, subst, inl, inr, arith}
+use Rattle.std.proofs.Common.{◌≡◌, ◌≢◌, ℕ, zero, suc, ◌/◌, ◌%◌, ◌<◌, ◌≤◌, min, ◌⊎◌, true, List, [], ◌∷◌, ◌++◌, length, get_or, take, drop, Some, sym, refl, ap, ◌∙◌, subst, inl, inr, arith}
 use Rattle.std.specs.List.{flat_map}
 use Rattle.std.specs.Str.Iter.{LacksByte}
-use Rattle.std.proofs.lemmas.List.{drop_at, get_or_append_left, length-append, take_at}
+use Rattle.std.proofs.lemmas.List.{drop_at, get_or-take, get_or_append_left, length-append, length-take-le, take_at}
 use Rattle.std.proofs.lemmas.Option.{cond_some}
 use Rattle.std.proofs.lemmas.Bool.{and_parts, leb-true}
 use Rattle.std.proofs.lemmas.Bool.Decides.{nat_tests}
-use Rattle.reading.specs.Spaced.{Stops, FirstWord, Begins, SpacedWords}
+use Rattle.reading.specs.Spaced.{Stops, FirstWord, Begins, CutsAt, SpacedWords}
 use Rattle.hash.specs.Hex.{hex_digit, hex}
 use Rattle.hash.specs.Members.{In}
+use Rattle.hash.specs.declared.number.Number.{Number}
+use Rattle.reading.proofs.Hexes.{length-hex}
 use Rattle.reading.specs.Spelling.{WordEnd, is_digit, all_digits, digits_value, decimal_of}
 
 -- no digit is a character that comes before the digits, as a space and a newline do
@@ -104,7 +106,51 @@ module _ {V : Type 0} (spells : List ℕ → V → Type 0) where
   pub one_more : (left w rest : List ℕ) (v : V) (vs : List V) → FirstWord spells left w v rest → SpacedWords spells rest vs → SpacedWords spells left (v ∷ vs)
   one_more left w rest v vs f s = (w ∷ s.0, f.text ∙ ap (λ (r : List ℕ). 32 ∷ (w ++ r)) s.1, ((f.whole, f.spelled), s.2))
 
+  -- a text is cut where its first word ends
+  pub cuts_at_end : (text : List ℕ) (r : ℕ) → WordEnd text r → CutsAt spells text r
+  cuts_at_end text r end = record { within = end.within; whole = λ _ _. end; only = λ s _ other _. one_end text r s end other }
+
+  -- a word that spells a value is cut off, and nothing else that does
+  pub cut_off : (text w rest : List ℕ) (v : V) (r : ℕ) → CutsAt spells text r → LacksByte 32 w → Stops rest → text ≡ w ++ rest → spells w v → take r text ≡ w
+  cut_off text w rest v r cuts whole stops e s =
+      let front : take (length w) text ≡ w = ap (take (length w)) e ∙ take_at w rest (length w) refl in
+      let end : WordEnd text (length w) = subst (λ (t : List ℕ). WordEnd t (length w)) (sym e) (whole_end w rest whole stops) in
+      let same = cuts.only (length w) v end (subst (λ (x : List ℕ). spells x v) (sym front) s) in
+      ap (λ (k : ℕ). take k text) same ∙ front
+
   -- the first word that is read, or any behind it, shows that the text begins with one
   pub word_read : (text left w rest : List ℕ) (v : V) → (left ≡ text) ⊎ Begins spells text → FirstWord spells left w v rest → Begins spells text
   word_read text left w rest v (inl all) f = (w, v, rest, subst (λ (t : List ℕ). FirstWord spells t w v rest) all f)
   word_read text left w rest v (inr begins) f = begins
+
+-- A number's word has 64 digits, and so ends there or nowhere.
+abbrev SpellsNumber : List ℕ → Number → Type 0
+SpellsNumber w n = w ≡ hex n.bytes
+
+number_long : (text : List ℕ) (r : ℕ) (n : Number) → r ≤ length text → SpellsNumber (take r text) n → r ≡ 64
+number_long text r n within s = let long = sym (length-take-le r text within) ∙ ap length s ∙ length-hex n.bytes in omega (arith, long, n.sized)
+
+pub number_cut : (text : List ℕ) (r : ℕ) → r ≡ min (length text) 64 → (64 < length text → get_or text 64 0 ≡ 32) → CutsAt SpellsNumber text r
+number_cut text r e found =
+    let within : r ≤ length text = omega (arith, e) in
+    record {
+      within = within;
+      whole = λ n s.
+          let long = number_long text r n within s in
+          record {
+            within = within;
+            before = λ k h at. hex_whole n.bytes k (omega (arith, sym (ap length s) ∙ length-take-le r text within)) (sym (ap (λ (w : List ℕ). get_or w k 0) s) ∙ get_or-take r text k 0 h ∙ at);
+            found = λ h. ap (λ (k : ℕ). get_or text k 0) long ∙ found (omega (arith, long));
+          };
+      only = λ s n end spelled. let long = number_long text s n end.within spelled in omega (arith, e, long, end.within);
+    }
+
+pub number_uncut : (text : List ℕ) → 64 < length text → get_or text 64 0 ≢ 32 → CutsAt SpellsNumber text 0
+number_uncut text longer other =
+    record {
+      within = omega arith;
+      whole = λ n s. absurd (omega (arith, number_long text 0 n (omega arith) s));
+      only = λ s n end spelled.
+          let long = number_long text s n end.within spelled in
+          absurd (other (sym (ap (λ (k : ℕ). get_or text k 0) long) ∙ end.found (omega (arith, long))));
+    }

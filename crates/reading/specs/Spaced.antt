@@ -1,7 +1,8 @@
 -- Words, each after one space. Assumes nothing: these are definitions.
-use Rattle.std.specs.Prelude.{◌≡◌, ℕ, ◌<◌, List, ◌∷◌, ◌++◌, length, decimal, slice_index}
+use Rattle.std.specs.Prelude.{◌≡◌, ℕ, ◌<◌, ◌≤◌, List, ◌∷◌, ◌++◌, length, take, decimal, slice_index}
 use Rattle.hash.specs.Hex.{hex}
 use Rattle.hash.specs.declared.number.Number.{Number}
+use Rattle.reading.specs.Spelling.{WordEnd}
 use Rattle.std.specs.List.{flat_map, AllZip}
 use Rattle.std.specs.Str.Iter.{LacksByte}
 
@@ -15,6 +16,12 @@ pub record FirstWord {V : Type 0} (spells : List ℕ → V → Type 0) (cs w : L
   pub whole : LacksByte 32 w
   pub stops : Stops rest
   pub spelled : spells w v
+
+-- a text may be cut here behind the word that it begins with: what is cut off spells a value only if it is that word, and if the word spells one, it is cut off
+pub record CutsAt {V : Type 0} (spells : List ℕ → V → Type 0) (cs : List ℕ) (r : ℕ) : Type 0 where
+  pub within : r ≤ length cs
+  pub whole : (v : V) → spells (take r cs) v → WordEnd cs r
+  pub only : (s : ℕ) (v : V) → WordEnd cs s → spells (take s cs) v → r ≡ s
 
 -- a text begins with a space and a word that spells a value
 abbrev pub Begins : {V : Type 0} → (spells : List ℕ → V → Type 0) → List ℕ → Type 0

@@ -1,7 +1,7 @@
 // Words, each after one space, read as values of one type.
 ghost use Rattle.std.specs.Prelude.{◌≡◌, ℕ, ◌^◌, List, Some, IfOk, IsErr, MatchOption};
 ghost use Rattle.reading.specs.Reading.{Reads, ReadsAs};
-ghost use Rattle.reading.specs.Spaced.{FirstWord, Begins, SpacedWords};
+ghost use Rattle.reading.specs.Spaced.{FirstWord, Begins, CutsAt, SpacedWords};
 ghost use Rattle.hash.specs.Hex.{hex};
 ghost use Rattle.reading.specs.Spelling.{decimal_of};
 
@@ -19,6 +19,14 @@ pub trait FromWord: Sized + Drop {
     // The value that a word spells, if it spells one.
     fn from_word(word: &[u8]) -> Option<Self>
         ensures { Reads (spells word.now) result };
+
+    // Where a text is cut behind the word that it begins with: at the first space, where it cannot be told sooner.
+    #[tactic(auto, using(crate::proofs::Cuts::cuts_at_end))]
+    fn word_end(text: &[u8]) -> usize
+        ensures { CutsAt spells text.now result }
+    {
+        word_end(text)
+    }
 }
 
 // A decimal below 2^32.
@@ -37,6 +45,14 @@ impl FromWord for Number {
     fn from_word(word: &[u8]) -> Option<Number> {
         read_hex(word)
     }
+
+    // All words have 64 digits, so that no space has to be looked for; what goes on behind these is cut into no word.
+    fn word_end(text: &[u8]) -> usize {
+        if text.len() > 64 && text[64] != b' ' {
+            return 0;
+        }
+        text.len().min(64)
+    }
 }
 
 // The value of the word that a text begins with, after one space, and what follows the word. No `Reads`, since it is two values.
@@ -44,7 +60,7 @@ fn first_value<T: FromWord>(text: &[u8]) -> Option<(T, &[u8])>
     ensures { MatchOption result ((w : List ℕ) (v : T) (rest : List ℕ) → FirstWord T.spells text.now w v rest → ⊥) (λ p. (w : List ℕ) × FirstWord T.spells text.now w p.0 p.1.now) }
 {
     let unspaced = after(text, b" ")?;
-    let (word, rest) = unspaced.split_at(word_end(unspaced));
+    let (word, rest) = unspaced.split_at(T::word_end(unspaced));
     Some((T::from_word(word)?, rest))
 }
 
