@@ -41,7 +41,21 @@ impl Program {
         ensures done { MatchResult result (λ o. Stepped K.IN_MEMORY self.old line.now (option_map string_bytes o) self.new) (λ _. Kept K.IN_MEMORY (taken self.old ++ (line.now ∷ [])) self.old self.new) }
         ensures in_step { KeptInStep K.IN_MEMORY (K.state keeper.old) self.old.session.store.items (K.state keeper.new) self.new.session.store.items }
     {
-        self.taken.push(Vec::from_slice(heap, line)?)?;
+        self.take(heap, Vec::from_slice(heap, line)?, keeper)
+    }
+
+    // The same with a line that is handed over, so that a long one is not held twice.
+    #[tactic(auto, unfolding(crate::specs::Steps::FailedAt))]
+    pub fn take<K: Keeper>(
+        &mut self,
+        heap: Global,
+        line: Vec<u8>,
+        keeper: &mut K,
+    ) -> Result<Option<String>, AllocError>
+        ensures done { MatchResult result (λ o. Stepped K.IN_MEMORY self.old line.items (option_map string_bytes o) self.new) (λ _. Kept K.IN_MEMORY (taken self.old ++ (line.items ∷ [])) self.old self.new) }
+        ensures in_step { KeptInStep K.IN_MEMORY (K.state keeper.old) self.old.session.store.items (K.state keeper.new) self.new.session.store.items }
+    {
+        self.taken.push(line)?;
         if !is_whole(&self.taken) {
             return Ok(None);
         }

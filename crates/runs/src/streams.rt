@@ -66,7 +66,7 @@ pub fn run_on<K: Keeper, R: BufRead + Drop, W: Write>(
 {
     let mut program = Program::new(heap, store);
     for line in reader.split(heap, b'\n') {
-        let text = program.step(heap, &line?, keeper)?;
+        let text = program.take(heap, line?, keeper)?;
         print(writer, text)?;
     }
     let text = program.finish(heap, keeper)?;

@@ -6,6 +6,8 @@ mod disks;
 #[cfg(test)]
 mod failing;
 #[cfg(test)]
+mod lent;
+#[cfg(test)]
 mod lines;
 #[cfg(test)]
 mod long;

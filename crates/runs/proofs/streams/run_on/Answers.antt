@@ -1,5 +1,5 @@
 -- The lines are those of the input, one by one, and the last answer is that to the end of the input.
-use Rattle.std.proofs.Common.{◌≡◌, ℕ, Bool, List, [], Ok, Err, Some, Option, Result, OnOk, ap, sym, ◌∙◌, subst}
+use Rattle.std.proofs.Common.{◌≡◌, ℕ, Bool, List, [], Ok, Err, Some, Option, Result, OnOk, refl, ap, sym, ◌∙◌, subst}
 use Rattle.std.specs.Io.BufRead.{first_piece}
 use Rattle.std.specs.Io.Iter.{split_byte, split_known_bytes, YieldsKnownPiece}
 use Rattle.std.proofs.lemmas.Result.{on_ok_weaker}
@@ -41,9 +41,9 @@ loop-line-preserved g c =
     let steps = c.next.ensures.steps in
     let b = g.K.Keeper.IN_MEMORY in
     let m = c.args.store.items in
-    let taken = took _ _ b m _ _ _ _ _ c.next.result c.in-Some.line c.in_ok-line.field-0 _ c.loop-line.program c.step.new.self _ inv.1 c.in-Some.is c.in_ok-line.was inv.0 steps.2 c.deref.ensures.value c.in_ok-text.ensures.done in
+    let taken = took _ _ b m _ _ _ _ _ c.next.result c.in-Some.line c.in_ok-line.field-0 _ c.loop-line.program c.take.new.self _ inv.1 c.in-Some.is c.in_ok-line.was inv.0 steps.2 refl c.in_ok-text.ensures.done in
     let print = c.print.ensures in
-    (steps.1 ∙ inv.0, known_printed b m _ _ _ _ _ _ print.0 c.step.new.self taken print.1 (ok_of c.print.result c.in_ok-print.was print.2), kept_more b _ _ _ m _ _ inv.2 c.step.ensures.in_step)
+    (steps.1 ∙ inv.0, known_printed b m _ _ _ _ _ _ print.0 c.take.new.self taken print.1 (ok_of c.print.result c.in_ok-print.was print.2), kept_more b _ _ _ m _ _ inv.2 c.take.ensures.in_step)
 
 pub returns-in_err-line-clause-ended : goal.returns-in_err-line-clause-ended
 returns-in_err-line-clause-ended g c =
@@ -53,7 +53,7 @@ returns-in_err-line-clause-ended g c =
 pub returns-in_err-text-clause-ended : goal.returns-in_err-text-clause-ended
 returns-in_err-text-clause-ended g c =
     let inv = c.loop-line.invariant in
-    known_ended c.from_residual-in_err-text.result _ _ _ _ _ _ [] c.loop-line.program _ _ _ _ inv.1 inv.2 c.step.ensures.in_step (err_of _ c.from_residual-in_err-text.result c.from_residual-in_err-text.ensures.0)
+    known_ended c.from_residual-in_err-text.result _ _ _ _ _ _ [] c.loop-line.program _ _ _ _ inv.1 inv.2 c.take.ensures.in_step (err_of _ c.from_residual-in_err-text.result c.from_residual-in_err-text.ensures.0)
 
 pub returns-in_err-print-clause-ended : goal.returns-in_err-print-clause-ended
 returns-in_err-print-clause-ended g c =
@@ -61,9 +61,9 @@ returns-in_err-print-clause-ended g c =
     let steps = c.next.ensures.steps in
     let b = g.K.Keeper.IN_MEMORY in
     let m = c.args.store.items in
-    let taken = took _ _ b m _ _ _ _ _ c.next.result c.in-Some.line c.in_ok-line.field-0 _ c.loop-line.program c.step.new.self _ inv.1 c.in-Some.is c.in_ok-line.was inv.0 steps.2 c.deref.ensures.value c.in_ok-text.ensures.done in
+    let taken = took _ _ b m _ _ _ _ _ c.next.result c.in-Some.line c.in_ok-line.field-0 _ c.loop-line.program c.take.new.self _ inv.1 c.in-Some.is c.in_ok-line.was inv.0 steps.2 refl c.in_ok-text.ensures.done in
     let print = c.print.ensures in
-    known_ended c.from_residual-in_err-print.result b m _ _ _ _ print.0 c.step.new.self _ _ _ _ (known_written b m _ _ _ _ _ _ print.0 c.step.new.self taken print.1) (kept_more b _ _ _ m _ _ inv.2 c.step.ensures.in_step) (kept_none _ _ _) (err_of _ c.from_residual-in_err-print.result c.from_residual-in_err-print.ensures.0)
+    known_ended c.from_residual-in_err-print.result b m _ _ _ _ print.0 c.take.new.self _ _ _ _ (known_written b m _ _ _ _ _ _ print.0 c.take.new.self taken print.1) (kept_more b _ _ _ m _ _ inv.2 c.take.ensures.in_step) (kept_none _ _ _) (err_of _ c.from_residual-in_err-print.result c.from_residual-in_err-print.ensures.0)
 
 pub returns-in_err-text-2-clause-ended : goal.returns-in_err-text-2-clause-ended
 returns-in_err-text-2-clause-ended g c =
