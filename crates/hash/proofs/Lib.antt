@@ -1,7 +1,7 @@
 -- The lemmas of this crate.
 mod Carries
-pub mod Hexes
 pub mod Fronts
+pub mod Hexes
 pub mod Joined
 pub mod Lasts
 pub mod Members

@@ -20,7 +20,7 @@ pub trait FromWord: Sized + Drop {
     fn from_word(word: &[u8]) -> Option<Self>
         ensures { Reads (spells word.now) result };
 
-    // Where a text is cut behind the word that it begins with: at the first space, where it cannot be told sooner.
+    // Where to cut a text for the word that it begins with: behind it, if it spells a value, and else anywhere that what is cut off spells none.
     #[tactic(auto, using(crate::proofs::Cuts::cuts_at_end))]
     fn word_end(text: &[u8]) -> usize
         ensures { CutsAt spells text.now result }
@@ -46,7 +46,7 @@ impl FromWord for Number {
         read_hex(word)
     }
 
-    // All words have 64 digits, so that no space has to be looked for; what goes on behind these is cut into no word.
+    // A word that spells a number has 64 digits, so that no space has to be looked for.
     fn word_end(text: &[u8]) -> usize {
         if text.len() > 64 && text[64] != b' ' {
             return 0;

@@ -44,7 +44,7 @@ impl Program {
         self.take(heap, Vec::from_slice(heap, line)?, keeper)
     }
 
-    // The same with a line that is handed over, so that a long one is not held twice.
+    // The same with a line that is handed over, so that a long one is not held twice; where memory fails it is gone.
     #[tactic(auto, unfolding(crate::specs::Steps::FailedAt))]
     pub fn take<K: Keeper>(
         &mut self,
