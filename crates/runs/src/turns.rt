@@ -1,10 +1,9 @@
 // A turn of the program: a line, or a `look` with the four lines behind it.
-ghost use Rattle.std.specs.Prelude.{◌≡◌, ℕ, ◌<◌, [], map, length, None, IfOk, MatchOption, MatchResult, string_bytes, vec_items};
+ghost use Rattle.std.specs.Prelude.{◌≡◌, ℕ, ◌<◌, [], map, length, None, IfOk, MatchResult, string_bytes, vec_items};
 ghost use Rattle.std.specs.Option.{option_map};
 ghost use Rattle.sessions.specs.Sessions.{Unchanged};
-ghost use Rattle.texts.specs.declared.command.Command.{Command};
 ghost use Rattle.runs.specs.Turns.{whole, Turn};
-ghost use Rattle.runs.specs.Steps.{allowed, Readable, Turned, FailedAt, KeptInStep};
+ghost use Rattle.runs.specs.Steps.{allowed, Turned, FailedAt, KeptInStep};
 
 use counter::Keeper;
 use keys::Refusal;
@@ -32,16 +31,6 @@ fn is_allowed(command: &Command, in_memory: bool) -> bool
     }
 }
 
-// Reads a line as a command, if it is one.
-fn read_line(heap: Global, line: &[u8], in_memory: bool) -> Result<Option<Command>, AllocError>
-    ensures { IfOk result (λ o. MatchOption o ((c : Command) → Readable in_memory line.now c → ⊥) (λ c. Readable in_memory line.now c)) }
-{
-    match read_command(heap, line)? {
-        Some(command) => Ok(is_allowed(&command, in_memory).then_some(command)),
-        None => Ok(None),
-    }
-}
-
 // Does what the lines of a turn ask, the first of which has that number, and gives the text that answers it, if one does. No line asks nothing.
 #[tactic(auto, unfolding(crate::specs::Steps::FailedAt))]
 pub fn turn<K: Keeper>(
@@ -58,11 +47,11 @@ pub fn turn<K: Keeper>(
     let Some((line, behind)) = lines.split_first() else {
         return Ok(None);
     };
-    match read_line(heap, line, K::IN_MEMORY)? {
-        Some(command) => {
+    match read_command(heap, line)? {
+        Some(command) if is_allowed(&command, K::IN_MEMORY) => {
             let four = SignatureLines::new(number.saturating_add(1), behind);
             session.execute(heap, command, &four, keeper)
         }
-        None => Ok(Some(format!(in heap; "{}", Refusal::Line(number))?)),
+        _ => Ok(Some(format!(in heap; "{}", Refusal::Line(number))?)),
     }
 }

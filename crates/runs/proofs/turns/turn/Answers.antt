@@ -7,13 +7,16 @@ use Rattle.std.proofs.lemmas.Bool.{false≢true}
 use Rattle.std.proofs.lemmas.Option.{MatchOption-at_none, MatchOption-at_some}
 use Rattle.sha256.specs.Rows.{row_hash}
 use Rattle.counter.specs.Cells.{DiskState}
+use Rattle.texts.specs.Commands.{Spelled}
 use Rattle.texts.specs.SignatureLines.{line_after, LinesAre}
 use Rattle.texts.specs.declared.command.Command.{Command}
 use Rattle.texts.specs.declared.command.Command.TheVariants.{Store, Sign}
 use Rattle.texts.specs.declared.signature.SignatureLines.{SignatureLines}
+use Rattle.texts.proofs.OneMeaning.{SameCommand, one_command}
 use Rattle.sessions.specs.Sessions.{FewerWrites, Executed, Failed, Counted, StaysInStep, Answered, PromisedStrings}
 use Rattle.sessions.specs.declared.session.Session.{Session}
-use Rattle.runs.specs.Steps.{Readable, Turned, FailedAt, KeptInStep}
+use Rattle.runs.specs.Steps.{allowed, Readable, Turned, FailedAt, KeptInStep}
+use Rattle.runs.proofs.turns.turn.Goals.{in_default-2-via-in-Some-2+else-is_allowed, in_default-2-via-in_default-2}
 use Rattle.runs.proofs.turns.turn.Goals as goal
 
 -- what `execute` says of a command in one session, where it was executed or memory failed
@@ -40,33 +43,49 @@ stays true c line d d₁ s s₁ sp counts step = λ e. absurd (false≢true (sym
 stays false (Store v) line d d₁ s s₁ (e, sp) counts step = absurd (false≢true e)
 stays false c line d d₁ s s₁ sp counts step = λ _. (counts, step)
 
+-- what is a command at all is so by its word
+same_allowed : (b : Bool) (c d : Command) → SameCommand c d → allowed b c ≡ allowed b d
+same_allowed b (Store v) (Store w) same = refl
+same_allowed b (Store v) d same = absurd same
+same_allowed b c (Store w) same = absurd same
+same_allowed b c d same = refl
+
+-- a line that spells a command spells no other, so that it can be read as none where that one is none
+none_other : (b : Bool) (line : List ℕ) (c : Command) → allowed b c ≡ false → Spelled line c → (d : Command) → Readable b line d → ⊥
+none_other b line c e sp d r = false≢true (sym e ∙ (same_allowed b c d (one_command line c d sp r.1) ∙ r.0))
+
 pub returns-in-Some-2-clause-turned : goal.returns-in-Some-2-clause-turned
 returns-in-Some-2-clause-turned g c =
     let lines = ap (map vec_items) c.in-Some.ensures.cases.0 in
-    let read = MatchOption-at_some _ _ c.in-Some-2.command c.in-Some-2.is c.in_ok-command.ensures in
-    let readable = subst (λ (b : Bool). Readable b c.deref.result.now c.in-Some-2.command) c.IN_MEMORY.ensures read in
-    let spelled = subst (λ (x : List ℕ). Readable g.K.Keeper.IN_MEMORY x c.in-Some-2.command) c.deref.ensures.value readable in
+    let spelled = subst (λ (x : List ℕ). Spelled x c.in-Some-2.command) c.deref.ensures.value (MatchOption-at_some _ _ c.in-Some-2.command c.in-Some-2.is c.in_ok-command.ensures.read) in
+    let is = ap (λ (b : Bool). allowed b c.in-Some-2.command) (sym c.IN_MEMORY.ensures) ∙ (sym c.is_allowed.ensures ∙ c.if-is_allowed.true) in
     let four = c.new-four.ensures in
     let done = c.execute.ensures.done in
-    commanded _ c.execute.result g.K.Keeper.IN_MEMORY c.args.number c.args.session.now done.0 c.execute.new.self _ _ _ c.in-Some-2.command c.new-four.result lines spelled (four.0 ∙ c.saturating_add.ensures, four.1, four.2, four.3, four.4) done.1 done.2
+    commanded _ c.execute.result g.K.Keeper.IN_MEMORY c.args.number c.args.session.now done.0 c.execute.new.self _ _ _ c.in-Some-2.command c.new-four.result lines (is, spelled) (four.0 ∙ c.saturating_add.ensures, four.1, four.2, four.3, four.4) done.1 done.2
 
 pub returns-in-Some-2-clause-in_step : goal.returns-in-Some-2-clause-in_step
 returns-in-Some-2-clause-in_step g c =
-    let read = MatchOption-at_some _ _ c.in-Some-2.command c.in-Some-2.is c.in_ok-command.ensures in
-    let readable = subst (λ (b : Bool). Readable b c.deref.result.now c.in-Some-2.command) c.IN_MEMORY.ensures read in
-    stays g.K.Keeper.IN_MEMORY c.in-Some-2.command _ _ _ _ _ readable c.execute.ensures.counts c.execute.ensures.in_step
+    let spelled = MatchOption-at_some _ _ c.in-Some-2.command c.in-Some-2.is c.in_ok-command.ensures.read in
+    let is = ap (λ (b : Bool). allowed b c.in-Some-2.command) (sym c.IN_MEMORY.ensures) ∙ (sym c.is_allowed.ensures ∙ c.if-is_allowed.true) in
+    stays g.K.Keeper.IN_MEMORY c.in-Some-2.command _ _ _ _ _ (is, spelled) c.execute.ensures.counts c.execute.ensures.in_step
 
-pub returns-in_ok-format-in-None-clause-turned : goal.returns-in_ok-format-in-None-clause-turned
-returns-in_ok-format-in-None-clause-turned g c =
+pub returns-in_ok-format-in_default-2-clause-turned : goal.returns-in_ok-format-in_default-2-clause-turned
+returns-in_ok-format-in_default-2-clause-turned g c =
     let lines = ap (map vec_items) c.in-Some.ensures.cases.0 in
-    let none = MatchOption-at_none _ _ c.in-None.is c.in_ok-command.ensures in
+    let none : (d : Command) → Readable g.K.Keeper.IN_MEMORY c.deref.result.now d → ⊥ =
+    elim c.in_default-2.branch [
+      | in_default-2-via-in-Some-2+else-is_allowed w ↦
+          none_other g.K.Keeper.IN_MEMORY c.deref.result.now w.in-Some-2.command (ap (λ (b : Bool). allowed b w.in-Some-2.command) (sym w.IN_MEMORY.ensures) ∙ (sym w.is_allowed.ensures ∙ w.if-is_allowed.false)) (MatchOption-at_some _ _ w.in-Some-2.command w.in-Some-2.is c.in_ok-command.ensures.read)
+      | in_default-2-via-in_default-2 w ↦ λ d r. MatchOption-at_none _ _ w.in_default-2.is c.in_ok-command.ensures.read d r.1
+    ]
+    in
     λ _. (
       _,
       _,
       lines,
       inr (
-        λ k sp. none k (subst (λ (b : Bool). Readable b c.deref.result.now k) (sym c.IN_MEMORY.ensures) (subst (λ (x : List ℕ). Readable g.K.Keeper.IN_MEMORY x k) (sym c.deref.ensures.value) sp)),
-        ap Some c.in_ok-format-in-None.ensures.ok,
+        λ k sp. none k (subst (λ (x : List ℕ). Readable g.K.Keeper.IN_MEMORY x k) (sym c.deref.ensures.value) sp),
+        ap Some c.in_ok-format-in_default-2.ensures.ok,
         (refl, refl, refl),
       ),
     )
