@@ -82,10 +82,16 @@ pub fn read_command(heap: Global, line: &[u8]) -> Result<Option<Command>, AllocE
         return read_look(heap, text);
     }
     if let Some(text) = after(line, b"levels ") {
-        return Ok(read_levels(text).map(Command::Levels));
+        let Some(tree) = read_levels(text) else {
+            return Ok(None);
+        };
+        return Ok(Some(Command::Levels(tree)));
     }
     if let Some(text) = after(line, b"store") {
-        return Ok(read_words(heap, text)?.map(Command::Store));
+        let Some(numbers) = read_words(heap, text)? else {
+            return Ok(None);
+        };
+        return Ok(Some(Command::Store(numbers)));
     }
     if let Some(digits) = after(line, b"power ") {
         return Ok(read_decimal(digits).map(Command::Power));
