@@ -82,16 +82,10 @@ pub fn read_command(heap: Global, line: &[u8]) -> Result<Option<Command>, AllocE
         return read_look(heap, text);
     }
     if let Some(text) = after(line, b"levels ") {
-        let Some(tree) = read_levels(text) else {
-            return Ok(None);
-        };
-        return Ok(Some(Command::Levels(tree)));
+        return Ok(read_levels(text).map(Command::Levels));
     }
     if let Some(text) = after(line, b"store") {
-        let Some(numbers) = read_words(heap, text)? else {
-            return Ok(None);
-        };
-        return Ok(Some(Command::Store(numbers)));
+        return Ok(read_words(heap, text)?.map(Command::Store));
     }
     if let Some(digits) = after(line, b"power ") {
         return Ok(read_decimal(digits).map(Command::Power));
